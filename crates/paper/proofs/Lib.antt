@@ -1,0 +1,17 @@
+pub mod Judged
+pub mod Lines
+pub mod Preorder
+pub mod Smallest
+pub mod Cases
+pub mod Places
+pub mod Examined
+pub mod Exact
+pub mod Known
+pub mod Admitted
+pub mod Refused
+pub mod Demands
+pub mod Bounds
+pub mod Numbers
+pub mod Contract
+pub mod Spelling
+pub mod Complete

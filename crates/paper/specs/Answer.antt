@@ -1,0 +1,54 @@
+-- The answer: eight lines.
+use mathlib.Core.Bool.{Bool, true, false}
+use mathlib.Core.List.{List, [], _∷_, _++_}
+use mathlib.Core.Option.{Option, none, some}
+use Prim.Native.Nat.{ℕ, zero, suc, _+_, _-_, _/_, _%_}
+use Prim.Native.String.{String}
+use lib.Dec.{ltb}
+use Rattle.paper.specs.Bytes.{bytes, LF, comma, digit0}
+use Rattle.paper.specs.Limits.{mostDigits}
+use Rattle.paper.specs.Verdict.{Verdict, malformed, unsuitable, critical, accepted, stopped, verdictOf}
+
+-- A number's digits before the bytes that follow, at most k + 1 of them.
+unfoldable pub digits : ℕ → ℕ → List ℕ → List ℕ
+digits zero n bs = (digit0 + n % 10) ∷ bs
+digits (suc k) n bs = elim (ltb n 10) [ true ↦ (digit0 + n) ∷ bs | false ↦ digits k (n / 10) ((digit0 + n % 10) ∷ bs) ]
+
+-- A number in decimal, of as many digits as a file may have.
+unfoldable pub decimal : ℕ → List ℕ
+decimal n = digits (mostDigits - 1) n []
+
+-- Numbers parted by commas.
+unfoldable pub decimals : List ℕ → List ℕ
+decimals [] = []
+decimals (n ∷ []) = decimal n
+decimals (n ∷ m ∷ ns) = decimal n ++ (comma ∷ decimals (m ∷ ns))
+
+-- `-` stands where a line has nothing to say.
+unfoldable pub dash : List ℕ
+dash = bytes "-"
+
+-- The line of a refusal, where it has one.
+unfoldable pub decimalIf : Option ℕ → List ℕ
+decimalIf none = dash
+decimalIf (some n) = decimal n
+
+-- A line: its key, `=`, its value and LF.
+unfoldable pub lineWith : String → List ℕ → List ℕ
+lineWith key value = bytes key ++ (bytes "=" ++ (value ++ (LF ∷ [])))
+
+-- The eight lines in their order.
+unfoldable pub eight : String → (refusal line rule x class bad examined : List ℕ) → List ℕ
+eight verdict refusal line rule x class bad examined = lineWith "verdict" (bytes verdict) ++ (lineWith "refusal" refusal ++ (lineWith "line" line ++ (lineWith "rule" rule ++ (lineWith "x" x ++ (lineWith "class" class ++ (lineWith "bad" bad ++ lineWith "examined" examined))))))
+
+-- The answer to each verdict.
+unfoldable pub answer : Verdict → List ℕ
+answer (malformed number line) = eight "malformed" (decimal number) (decimalIf line) dash dash dash dash dash
+answer (unsuitable class bad) = eight "unsuitable" dash dash dash dash (decimal class) (decimal bad) (decimal 0)
+answer (critical rule xs class examined) = eight "critical" dash dash (decimal rule) (decimals xs) (decimal class) dash (decimal examined)
+answer (accepted examined) = eight "accepted" dash dash dash dash dash dash (decimal examined)
+answer (stopped examined) = eight "stopped" dash dash dash dash dash dash (decimal examined)
+
+-- The answer to a file.
+unfoldable pub answerOf : List ℕ → List ℕ
+answerOf file = answer (verdictOf file)

@@ -1,0 +1,16 @@
+pub mod Bytes
+pub mod Limits
+pub mod Certificate
+pub mod Judged
+pub mod Lines
+pub mod Fields
+pub mod Tables
+pub mod Sides
+pub mod Format
+pub mod Verdict
+pub mod Meaning
+pub mod Answer
+pub mod Contract
+pub mod Known
+pub mod WellFormed
+pub mod Spelling

@@ -1,0 +1,45 @@
+-- The document's limits, each in one place.
+use Prim.Native.Nat.{ℕ, _-_}
+
+-- The largest budget.
+abbrev pub mostBudget : ℕ
+mostBudget = 33_554_432
+
+-- How many symbols may be listed, and the largest arity.
+abbrev pub mostSymbols : ℕ
+mostSymbols = 64
+
+abbrev pub mostArity : ℕ
+mostArity = 3
+
+-- How many states an automaton may have, and the last state or class that there can be.
+abbrev pub mostStates : ℕ
+mostStates = 32
+
+abbrev pub lastState : ℕ
+lastState = mostStates - 1
+
+-- How many transitions an automaton may have.
+abbrev pub mostTransitions : ℕ
+mostTransitions = 128
+
+-- How many rules there may be, how many tokens on a side, and the last variable, x3.
+abbrev pub mostRules : ℕ
+mostRules = 32
+
+abbrev pub mostTokens : ℕ
+mostTokens = 24
+
+abbrev pub lastVariable : ℕ
+lastVariable = 3
+
+-- How many digits a number may have.
+abbrev pub mostDigits : ℕ
+mostDigits = 8
+
+-- How long a file may be, and how long an answer buffer must be.
+abbrev pub mostBytes : ℕ
+mostBytes = 16_384
+
+abbrev pub leastBuffer : ℕ
+leastBuffer = 128

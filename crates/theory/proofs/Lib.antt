@@ -1,0 +1,12 @@
+pub mod Count
+pub mod Merged
+pub mod Factor
+pub mod Safety
+pub mod Tests
+pub mod Value
+pub mod Sum
+pub mod Fixpoint
+pub mod Joined
+pub mod Sharing
+pub mod Search
+pub mod Preorder

@@ -1,0 +1,12 @@
+pub mod Lists
+pub mod Term
+pub mod Rewriting
+pub mod Automaton
+pub mod Safe
+pub mod Merging
+pub mod Critical
+pub mod Value
+pub mod Fixpoint
+pub mod Sharing
+pub mod Search
+pub mod Preorder

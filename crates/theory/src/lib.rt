@@ -1,0 +1,1 @@
+// No code: the definitions of document 002, and their laws.
