@@ -15,3 +15,5 @@ pub mod Numbers
 pub mod Contract
 pub mod Spelling
 pub mod Complete
+pub mod Distinct
+pub mod Told

@@ -87,6 +87,7 @@ substitutions-place k (suc v) before σ rest e =
 -- A substitution to be examined: its rule is in the list, and before it stand those of the earlier rules and the earlier ones of its own.
 pub record Placed (k n : ℕ) (R : List Rule) (c : Case) (count : ℕ) : Type 0 where
   pub earlier : ℕ
+  pub listed : earlier < length R
   pub number : c .number ≡ n + earlier
   pub place : count ≡ total k (take earlier R) + placeOf k (c .σ)
 
@@ -98,9 +99,9 @@ cases-place k n (rule ∷ R) before c rest e = elim (split-append before (map (c
   | inl (more, h) ↦
       let m = split-map (case n rule) (substitutions k (variableCount rule)) before c more h in
       let p = substitutions-place k (variableCount rule) (m .before) (m .this) (m .rest) (m .split) in
-      record { earlier = 0; number = omega (arith, ap (λ c. c .number) (m .image)); place = omega (arith, m .count, p ∙ ap (λ c. placeOf k (c .σ)) (m .image)) }
+      record { earlier = 0; listed = omega arith; number = omega (arith, ap (λ c. c .number) (m .image)); place = omega (arith, m .count, p ∙ ap (λ c. placeOf k (c .σ)) (m .image)) }
   | inr (more, h, i) ↦
       let s = cases-place k (suc n) R more c rest i in
       let long : length before ≡ k ^ variableCount rule + length more = ap length h ∙ (length-append (map (case n rule) (substitutions k (variableCount rule))) more ∙ rw (length-map (substitutions k (variableCount rule)) (case n rule), length-substitutions)) in
-      record { earlier = suc (s .earlier); number = omega (arith, s .number); place = omega (arith, s .place) }
+      record { earlier = suc (s .earlier); listed = omega (arith, s .listed); number = omega (arith, s .number); place = omega (arith, s .place) }
 ]

@@ -1,12 +1,13 @@
 -- Every file is refused by a number of the document, on a line unless the number is 2, or holds a certificate.
-use mathlib.Core.Path.{_≡_, refl}
+use mathlib.Core.Path.{_≡_, refl, ap}
 use mathlib.Core.Logic.{_⊎_, inl, inr}
 use mathlib.Core.Bool.{Bool, true, false}
 use mathlib.Core.List.{List, [], _∷_, _++_}
 use mathlib.Core.Option.{Option, none, some}
-use Prim.Native.Nat.{ℕ, zero, suc, _≤_}
+use Prim.Native.Nat.{ℕ, zero, suc, _+_, _≤_, _<_}
 use Prim.Native.String.{String}
 use native.Mathlib.Omega.{arith}
+use borrow.Author.Tests.{leb-true}
 use lib.Dec.{eqb, leb}
 use lib.ListN.{length, getD}
 use Rattle.theory.specs.Term.{Terms, none as no-term, _then_}
@@ -22,6 +23,7 @@ use Rattle.paper.specs.Sides.{part, before, terms, single, termOf, term,
 use Rattle.paper.specs.Format.{Reading, refused, gave, Reader, goOn, give, onLine, lineOf, fixed, times, rule, end, certificate, Refusal, too-long, on-line, File, malformed, holds, wholeFile, readFile}
 use Rattle.paper.specs.Format
 use Rattle.paper.proofs.Smallest.{decided}
+use Rattle.paper.proofs.Judged.{silent, Says, said, spoken, anything}
 
 -- A number by which a line can be refused.
 abbrev Numbered : ℕ → Type 0
@@ -150,39 +152,63 @@ right-faults : (arities : List ℕ) (l : _) (value : List ℕ) → Faults (right
 unfolding rightSide
 right-faults arities l value = onward _ _ (term-faults arities value) (λ r. tested 10 _ _ (omega arith) (never r))
 
--- A reader refuses by such a number, on its own line or a later one, and goes on to no earlier line.
-record Orderly {X : Type 0} (line : ℕ) (r : Reading X) : Type 0 where
-  by : (number l : ℕ) → r ≡ refused number l → Numbered number × (line ≤ l)
-  next : (x : X) (l : ℕ) (rest : List ℕ) → r ≡ gave x l rest → line ≤ l
+-- A line that is taken leaves fewer bytes.
+after-shorter : (ks bs : List ℕ) → Says (λ r. length r ≤ length bs) (after ks bs)
+unfolding after
+after-shorter [] bs r e = spoken (λ r. length r ≤ length bs) bs (omega arith) r e
+after-shorter (k ∷ ks) [] r e = absurd (silent e)
+after-shorter (k ∷ ks) (b ∷ bs) r e = elim (decided (eqb k b)) [
+  | inl p ↦ omega (arith, after-shorter ks bs r (rw (p, after) at e))
+  | inr p ↦ absurd (silent (rw (p, after) at e))
+]
+
+ended-shorter : (bs : List ℕ) → Says (λ l. length (l .rest) < length bs) (ended bs)
+unfolding ended
+ended-shorter [] l e = absurd (silent e)
+ended-shorter (b ∷ bs) l e = elim (decided (eqb b LF)) [
+  | inl p ↦ spoken (λ l. length (l .rest) < length (b ∷ bs)) _ (omega arith) l (rw (p, ended) at e)
+  | inr p ↦ said _ _ (ended-shorter bs) (λ l h. spoken (λ l. length (l .rest) < length (b ∷ bs)) _ (omega arith)) l (rw (p, ended) at e)
+]
+
+line-shorter : {X : Type 0} (key : String) (judge : List ℕ → Judged X) (bs : List ℕ) → Says (λ s. length (s .rest) < length bs) (judgedLine key judge bs)
+unfolding judgedLine takeLine
+line-shorter key judge bs = said _ _ (said _ _ (after-shorter (bytes key ++ bytes "=") bs) (λ r h l e. omega (arith, ended-shorter r l e))) (λ l h. said _ _ (anything (judge (l .value))) (λ x u. spoken (λ s. length (s .rest) < length bs) _ h))
+
+-- A reader refuses by such a number, on its own line or a later one, and no further on than there are bytes; it goes on likewise.
+record Orderly {X : Type 0} (line : ℕ) (rest : List ℕ) (r : Reading X) : Type 0 where
+  by : (number l : ℕ) → r ≡ refused number l → Numbered number × (line ≤ l) × (l ≤ line + length rest)
+  next : (x : X) (l : ℕ) (rest′ : List ℕ) → r ≡ gave x l rest′ → (line ≤ l) × (l + length rest′ ≤ line + length rest)
 
 abbrev Ordered : {X : Type 0} → Reader X → Type 0
-Ordered reader = (line : ℕ) (rest : List ℕ) → Orderly line (reader line rest)
+Ordered reader = (line : ℕ) (rest : List ℕ) → Orderly line rest (reader line rest)
 
-on-faults : {X : Type 0} (line : ℕ) (j : Judged (Said X)) → Faults j → Orderly line (onLine line j)
+on-faults : {X : Type 0} (line : ℕ) (rest : List ℕ) (j : Judged (Said X)) → Faults j → Says (λ s. length (s .rest) < length rest) j → Orderly line rest (onLine line j)
 unfolding onLine
-on-faults line (fault m) h = record { by = λ n l e. let same : m ≡ n = cc in let here : line ≡ l = cc in (rw same at (h m refl), omega arith); next = λ x l rest e. let z : _≡_ {A = ℕ} 0 1 = cc in absurd (omega arith) }
-on-faults line (says s) h = record { by = λ n l e. let z : _≡_ {A = ℕ} 0 1 = cc in absurd (omega arith); next = λ x l rest e. let here : suc line ≡ l = cc in omega arith }
+on-faults line rest (fault m) h w = record { by = λ n l e. let same : m ≡ n = cc in let here : line ≡ l = cc in (rw same at (h m refl), omega arith, omega arith); next = λ x l rest e. let z : _≡_ {A = ℕ} 0 1 = cc in absurd (omega arith) }
+on-faults line rest (says s) h w = record { by = λ n l e. let z : _≡_ {A = ℕ} 0 1 = cc in absurd (omega arith); next = λ x l rest′ e. let here : suc line ≡ l = cc in let left : s .rest ≡ rest′ = cc in (omega arith, omega (arith, w s refl, ap length left)) }
 
 line-ordered : {X : Type 0} (key : String) (judge : List ℕ → Judged X) → ((value : List ℕ) → Faults (judge value)) → Ordered (lineOf key judge)
 unfolding lineOf judgedLine takeLine
-line-ordered key judge h line rest = on-faults line _ (onward _ _ (onward _ _ (after-faults (bytes key ++ bytes "=") rest) ended-faults) (λ l. onward _ _ (h (l .value)) (λ x. never _)))
+line-ordered key judge h line rest = on-faults line rest _ (onward _ _ (onward _ _ (after-faults (bytes key ++ bytes "=") rest) ended-faults) (λ l. onward _ _ (h (l .value)) (λ x. never _))) (line-shorter key judge rest)
 
-later : {X Y : Type 0} (line : ℕ) (r : Reading X) (k : X → Reader Y) → Orderly line r → ((x : X) → Ordered (k x)) → Orderly line (goOn r k)
+later : {X Y : Type 0} (line : ℕ) (rest : List ℕ) (r : Reading X) (k : X → Reader Y) → Orderly line rest r → ((x : X) → Ordered (k x)) → Orderly line rest (goOn r k)
 unfolding goOn
-later line (refused m l) k h g = record { by = λ n i e. let same : m ≡ n = cc in let here : l ≡ i = cc in rw (← same, ← here) (h .by m l refl); next = λ x i rest e. let z : _≡_ {A = ℕ} 0 1 = cc in absurd (omega arith) }
-later line (gave x l rest) k h g = record { by = λ n i e. let (a, b) = g x l rest .by n i e in (a, omega (arith, h .next x l rest refl)); next = λ y i bs e. omega (arith, h .next x l rest refl, g x l rest .next y i bs e) }
+later line rest (refused m l) k h g = record { by = λ n i e. let same : m ≡ n = cc in let here : l ≡ i = cc in rw (← same, ← here) (h .by m l refl); next = λ x i rest e. let z : _≡_ {A = ℕ} 0 1 = cc in absurd (omega arith) }
+later line rest (gave x l left) k h g =
+    let (a, b) = h .next x l left refl in
+    record { by = λ n i e. let (c, d, f) = g x l left .by n i e in (c, omega arith, omega arith); next = λ y i bs e. let (c, d) = g x l left .next y i bs e in (omega arith, omega arith) }
 
 and-then : {X Y : Type 0} (r : Reader X) (k : X → Reader Y) → Ordered r → ((x : X) → Ordered (k x)) → Ordered (Format._>>=_ r k)
 unfolding Format._>>=_
-and-then r k h g line rest = later line (r line rest) k (h line rest) g
+and-then r k h g line rest = later line rest (r line rest) k (h line rest) g
 
 passing : {X Y : Type 0} (r : Reader X) (k : Reader Y) → Ordered r → Ordered k → Ordered (Format._>>_ r k)
 unfolding Format._>>_
-passing r k h g line rest = later line (r line rest) (λ x. k) (h line rest) (λ x. g)
+passing r k h g line rest = later line rest (r line rest) (λ x. k) (h line rest) (λ x. g)
 
 gives : {X : Type 0} (x : X) → Ordered (give x)
 unfolding give
-gives x line rest = record { by = λ n l e. let z : _≡_ {A = ℕ} 0 1 = cc in absurd (omega arith); next = λ y l bs e. let here : line ≡ l = cc in omega arith }
+gives x line rest = record { by = λ n l e. let z : _≡_ {A = ℕ} 0 1 = cc in absurd (omega arith); next = λ y l bs e. let here : line ≡ l = cc in let left : rest ≡ bs = cc in (omega arith, omega (arith, ap length left)) }
 
 times-ordered : {X : Type 0} (n : ℕ) (r : Reader X) → Ordered r → Ordered (times n r)
 unfolding times
@@ -195,8 +221,8 @@ rule-ordered arities = and-then _ _ (line-ordered "l" _ (left-faults arities)) (
 
 end-ordered : Ordered end
 unfolding end
-end-ordered line [] = record { by = λ n l e. let z : _≡_ {A = ℕ} 0 1 = cc in absurd (omega arith); next = λ y l bs e. let here : line ≡ l = cc in omega arith }
-end-ordered line (b ∷ bs) = record { by = λ n l e. let same : 3 ≡ n = cc in let here : line ≡ l = cc in (omega arith, omega arith); next = λ y l bs e. let z : _≡_ {A = ℕ} 0 1 = cc in absurd (omega arith) }
+end-ordered line [] = record { by = λ n l e. let z : _≡_ {A = ℕ} 0 1 = cc in absurd (omega arith); next = λ y l bs e. let here : line ≡ l = cc in let left : [] ≡ bs = cc in (omega arith, omega (arith, ap length left)) }
+end-ordered line (b ∷ bs) = record { by = λ n l e. let same : 3 ≡ n = cc in let here : line ≡ l = cc in (omega arith, omega arith, omega arith); next = λ y l bs e. let z : _≡_ {A = ℕ} 0 1 = cc in absurd (omega arith) }
 
 certificate-ordered : Ordered certificate
 unfolding certificate fixed
@@ -220,10 +246,10 @@ certificate-ordered =
 pub refused-or-holds : (file : List ℕ) → ((number : ℕ) × (line : Option ℕ) × (readFile file ≡ malformed number line) × Refusal number line) ⊎ ((c : Certificate) × (readFile file ≡ holds c))
 unfolding readFile wholeFile
 refused-or-holds file = elim (decided (leb (length file) mostBytes)) [
-  | inl h ↦ rw (h, readFile) (go (certificate 1 file) (certificate-ordered 1 file))
+  | inl h ↦ rw (h, readFile) (go (certificate 1 file) (certificate-ordered 1 file) (leb-true (length file) mostBytes h))
   | inr h ↦ inl (2, none, rw (h, readFile), too-long)
 ]
   where
-    go : (r : Reading Certificate) → Orderly 1 r → ((number : ℕ) × (line : Option ℕ) × (wholeFile r ≡ malformed number line) × Refusal number line) ⊎ ((c : Certificate) × (wholeFile r ≡ holds c))
-    go (refused number line) o = let (n, l) = o .by number line refl in inl (number, some line, refl, on-line (n .0) (n .1) l)
-    go (gave c line rest) o = inr (c, refl)
+    go : (r : Reading Certificate) → Orderly 1 file r → length file ≤ mostBytes → ((number : ℕ) × (line : Option ℕ) × (wholeFile r ≡ malformed number line) × Refusal number line) ⊎ ((c : Certificate) × (wholeFile r ≡ holds c))
+    go (refused number line) o short = let (n, l, h) = o .by number line refl in inl (number, some line, refl, on-line (n .0) (n .1) l (omega arith))
+    go (gave c line rest) o short = inr (c, refl)

@@ -100,10 +100,10 @@ pub data File : Type 0 where
   malformed : (number : ℕ) → (line : Option ℕ) → File
   holds : Certificate → File
 
--- How a file is refused: by 2 on no line, or by a number from 3 to 11 on a line, counted from 1.
+-- How a file is refused: by 2 on no line, or by a number from 3 to 11 on a line, counted from 1; there are no more lines than bytes, and one after the last.
 pub data Refusal : ℕ → Option ℕ → Type 0 where
   too-long : Refusal 2 none
-  on-line : {number line : ℕ} → 3 ≤ number → number ≤ 11 → 1 ≤ line → Refusal number (some line)
+  on-line : {number line : ℕ} → 3 ≤ number → number ≤ 11 → 1 ≤ line → line ≤ suc mostBytes → Refusal number (some line)
 
 -- The whole file's reading.
 unfoldable pub wholeFile : Reading Certificate → File

@@ -1,4 +1,5 @@
 pub mod Count
+pub mod Grow
 pub mod Merged
 pub mod Factor
 pub mod Safety
