@@ -66,7 +66,7 @@ module _ (M : Automaton) (R : List Rule) where
         acritical (record { rule = c .rule; listed = l; σ = c .σ; complete = complete; allowed = allowed; q = q; left = k .left; notRight = k .notRight }),
   )
 
-  critical-iff : (c : Case) (q : ℕ) → (isCritical M (c .rule) (c .σ) q ≡ true) ↔ CriticalFor M c q
+  pub critical-iff : (c : Case) (q : ℕ) → (isCritical M (c .rule) (c .σ) q ≡ true) ↔ CriticalFor M c q
   unfolding isCritical
   critical-iff c q = (
     λ e. let (l, r) = and-eq-true-iff (value M (entry (c .σ)) (c .rule .left) q) _ .0 e in record { left = value-exact M (entry (c .σ)) (c .rule .left) q .0 l; notRight = λ g. not-iff _ .0 r (value-exact M (entry (c .σ)) (c .rule .right) q .1 g) },

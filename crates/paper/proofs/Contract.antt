@@ -22,7 +22,7 @@ module _ (file buffer : List ℕ) where
   short-untouched l = rw (lt-ltb (length buffer) leastBuffer l, returned)
 
   module _ (long : leastBuffer ≤ length buffer) where
-    answered : returned file buffer ≡ record { number = refusal (verdictOf file); written = length (answerOf file); buffer = answerOf file ++ drop (length (answerOf file)) buffer }
+    pub answered : returned file buffer ≡ record { number = refusal (verdictOf file); written = length (answerOf file); buffer = answerOf file ++ drop (length (answerOf file)) buffer }
     unfolding returned
     answered = rw (le-ltb (length buffer) leastBuffer long, returned)
 

@@ -1,0 +1,261 @@
+-- A whole line of the byte machine is paper's: the key, the value up to the LF, its entries, and the range of each.
+use mathlib.Core.Path.{_≡_, refl, sym, ap, _∙_}
+use mathlib.Core.Bool.{Bool, true, false, not}
+use mathlib.Core.Logic.{inl, inr}
+use mathlib.Core.List.{List, [], _∷_}
+use Prim.Native.Nat.{ℕ, zero, suc, _+_, _-_, _≤_}
+use native.Mathlib.Omega.{arith}
+use borrow.Author.Tests.{eq-eqb, ne-eqb, eqb-true, eqb-false}
+use lib.Dec.{eqb}
+use lib.ListN.{drop}
+use Rattle.paper.specs.Judged.{Judged, fault, says, _>>=_, _>>_, _unless_}
+use Rattle.paper.specs.Lines.{Line as PaperLine, Said, after, ended}
+use Rattle.paper.specs.Fields.{each, entries, number}
+use Rattle.paper.specs.Tables.{numbers as numbersIn4, numbersOf}
+use Rattle.paper.proofs.Smallest.{decided}
+use Rattle.paper.proofs.Judged.{silent, parts}
+use Rattle.paper.proofs.Lines.{entries-sound}
+use Rattle.fields.specs.declared.cursor.Cursor.{Cursor}
+use Rattle.fields.specs.declared.cursor.Opened.{Opened}
+use Rattle.fields.specs.declared.cursor.Opened.the-variants.{At, Missing}
+use Rattle.fields.specs.Value.{Value, numbers, notNumbers, back, code, entriesFrom, valueOf}
+use Rattle.fields.specs.Line.{afterKey, hasEnd, ending, openAt}
+use Rattle.fields.specs.Listed.{beyond}
+use Rattle.fields.specs.Lines.{Line, good, bad, numbersIn, lineIn, entryLine, checked}
+use Rattle.fields.specs.Said.{keyed, saidLine}
+use Rattle.fields.proofs.Digits.{readOn, read-number}
+use Rattle.fields.proofs.Entries.{saidValue, found, headed, next-rest, ended-has, ended-not, entries-said}
+
+-- The key.
+unfoldable pub saidOpened : List ℕ → Opened → Judged (List ℕ)
+saidOpened file (At c) = says (drop (c .at) file)
+saidOpened file Missing = fault 3
+
+after-said : (file key s : List ℕ) (at : ℕ) → drop at file ≡ s → saidOpened file (afterKey key at s) ≡ after key s
+unfolding afterKey after saidOpened
+after-said file [] s at d = ap says d
+after-said file (k ∷ ks) [] at d = refl
+after-said file (k ∷ ks) (b ∷ s) at d = elim (decided (eqb b k)) [
+  | inl p ↦ rw (p, eq-eqb k b (sym (eqb-true b k p)), afterKey, after) (after-said file ks s (at + 1) (next-rest file at b s d))
+  | inr p ↦ rw (p, ne-eqb k b (λ e. eqb-false b k p (sym e)), afterKey, after)
+]
+
+-- A line that is there: its value, and what is judged of it.
+pub record There {X : Type 0} (key : List ℕ) (judge : List ℕ → Judged X) (file : List ℕ) (at : ℕ) (c : Cursor) : Type 0 where
+  pub line : PaperLine
+  pub ends : ended (drop (c .at) file) ≡ says line
+  pub is : keyed key judge (drop at file) ≡ found (line .rest) (judge (line .value))
+
+module _ {X : Type 0} (key : List ℕ) (judge : List ℕ → Judged X) (file : List ℕ) (at : ℕ) where
+  ending-missing : (o : Opened) → saidOpened file o ≡ after key (drop at file) → ending file o ≡ Missing → keyed key judge (drop at file) ≡ fault 3
+  unfolding ending saidOpened keyed _>>=_
+  ending-missing Missing e h = rw (← e)
+  ending-missing (At c) e h = elim (decided (hasEnd (drop (c .at) file))) [
+    | inl p ↦ let w : At c ≡ Missing = rw (p, ending) at h in let z : _≡_ {A = ℕ} 0 1 = cc in absurd (omega arith)
+    | inr p ↦ rw (← e, ended-not (drop (c .at) file) p)
+  ]
+
+  pub keyed-missing : openAt key file at ≡ Missing → keyed key judge (drop at file) ≡ fault 3
+  keyed-missing h = ending-missing (afterKey key at (drop at file)) (after-said file key (drop at file) at refl) h
+
+  ending-at : (o : Opened) (c : Cursor) → saidOpened file o ≡ after key (drop at file) → ending file o ≡ At c → There key judge file at c
+  unfolding ending saidOpened keyed found _>>=_
+  ending-at Missing c e h = let z : _≡_ {A = ℕ} 0 1 = cc in absurd (omega arith)
+  ending-at (At d) c e h = elim (decided (hasEnd (drop (d .at) file))) [
+    | inr p ↦ let w : Missing ≡ At c = rw (p, ending) at h in let z : _≡_ {A = ℕ} 0 1 = cc in absurd (omega arith)
+    | inl p ↦
+        let w : At d ≡ At c = rw (p, ending) at h in
+        let same : d ≡ c = cc in
+        let (l, f) = ended-has (drop (d .at) file) p in
+        rw (← same) (record { line = l; ends = f; is = rw (← e, f) })
+  ]
+
+  pub keyed-at : (c : Cursor) → openAt key file at ≡ At c → There key judge file at c
+  keyed-at c h = ending-at (afterKey key at (drop at file)) c (after-said file key (drop at file) at refl) h
+
+-- The entries of a value, as the machine reads them; an empty value has none where it may be empty.
+unfoldable pub values : ℕ → List ℕ → Judged (List ℕ)
+values y value = each (readOn y 0 0) (entries value)
+
+unfoldable pub valuesOf : ℕ → Bool → List ℕ → Judged (List ℕ)
+valuesOf y false value = values y value
+valuesOf y true [] = says []
+valuesOf y true (b ∷ bs) = values y (b ∷ bs)
+
+-- 5: the first is above f, or another above m.
+unfoldable pub inRange : ℕ → ℕ → List ℕ → Judged (List ℕ)
+inRange f m ns = 5 unless not (beyond f m ns) >> says ns
+
+unfoldable pub ranged : ℕ → ℕ → ℕ → Bool → List ℕ → Judged (List ℕ)
+ranged y f m empty value = valuesOf y empty value >>= inRange f m
+
+headed-each : (f : List ℕ → Judged ℕ) (es : List (List ℕ)) (e : List ℕ) (rest : List (List ℕ)) → es ≡ e ∷ rest → headed f f es ≡ each f es
+unfolding headed each
+headed-each f es e rest h = rw h
+
+headed-some : (f g : List ℕ → Judged ℕ) (es : List (List ℕ)) → headed f g es ≡ says [] → ⊥
+unfolding headed
+headed-some f g [] h = silent h
+headed-some f g (e ∷ es) h =
+    let (w, p, q) = parts (f e) _ h in
+    let (ws, r, t) = parts (each g es) _ q in
+    let z : _≡_ {A = ℕ} 0 1 = cc in omega arith
+
+each-some : (f : List ℕ → Judged ℕ) (value : List ℕ) → each f (entries value) ≡ says [] → ⊥
+each-some f value h = let i = entries-sound value in headed-some f f (entries value) (headed-each f (entries value) (i .first) (i .others) (i .are) ∙ h)
+
+-- A value with a byte in it.
+line-numbers : (file : List ℕ) (f m : ℕ) (empty : Bool) (x : Value) (behind : List ℕ) (j : Judged (List ℕ)) → (j ≡ says [] → ⊥)
+    → saidValue file x ≡ found behind j → saidLine file (numbersIn f m empty x) ≡ found behind (j >>= inRange f m)
+unfolding saidValue found numbersIn saidLine _>>=_
+line-numbers file f m empty notNumbers behind (fault n) h e = e
+line-numbers file f m empty notNumbers behind (says ns) h e = absurd (silent e)
+line-numbers file f m empty (numbers ns at) behind (fault n) h e = absurd (silent (sym e))
+line-numbers file f m empty (numbers [] at) behind (says ms) h e = absurd (h (let same : _≡_ {A = Said (List ℕ)} (record { what = []; rest = drop at file }) (record { what = ms; rest = behind }) = cc in ap says (sym (ap (λ (s : Said (List ℕ)). s .what) same))))
+line-numbers file f m empty (numbers (v ∷ ns) at) behind (says ms) h e =
+    let same : _≡_ {A = Said (List ℕ)} (record { what = v ∷ ns; rest = drop at file }) (record { what = ms; rest = behind }) = cc in
+    let p : v ∷ ns ≡ ms = ap (λ (s : Said (List ℕ)). s .what) same in
+    let q : drop at file ≡ behind = ap (λ (s : Said (List ℕ)). s .rest) same in
+    rw (← p, ← q) (elim (decided (beyond f m (v ∷ ns))) [
+      | inl b ↦ unfold inRange _unless_ _>>_ in (rw (b, numbersIn))
+      | inr b ↦ unfold inRange _unless_ _>>_ in (rw (b, numbersIn))
+    ])
+
+module _ (file : List ℕ) (f m at y b : ℕ) (s : List ℕ) where
+  at-lf : (empty : Bool) → drop (at + 1) file ≡ s → eqb b 10 ≡ true → saidLine file (numbersIn f m empty (valueOf y at (b ∷ s))) ≡ found s (ranged y f m empty [])
+  unfolding valueOf numbersIn saidLine ranged valuesOf values inRange beyond each entries readOn found _unless_ _>>_ _>>=_
+  at-lf true d h = rw (h, valueOf) (rw d)
+  at-lf false d h = rw (h, valueOf)
+
+  has-byte : (empty : Bool) (v r : List ℕ) → eqb b 10 ≡ false → saidValue file (entriesFrom y 0 0 at (b ∷ s)) ≡ found r (each (readOn y 0 0) (entries (b ∷ v)))
+      → saidLine file (numbersIn f m empty (valueOf y at (b ∷ s))) ≡ found r (ranged y f m empty (b ∷ v))
+  unfolding valueOf ranged
+  has-byte empty v r h w = rw (h, valueOf) (line-numbers file f m empty _ r _ (each-some (readOn y 0 0) (b ∷ v)) w ∙ ap (λ j. found r (j >>= inRange f m)) (some-byte empty))
+    where
+      some-byte : (empty : Bool) → each (readOn y 0 0) (entries (b ∷ v)) ≡ valuesOf y empty (b ∷ v)
+      some-byte true = unfold valuesOf values in refl
+      some-byte false = unfold valuesOf values in refl
+
+value-said : (file s : List ℕ) (y f m : ℕ) (empty : Bool) (at : ℕ) (l : PaperLine) → back y ≡ y → drop at file ≡ s → ended s ≡ says l
+    → saidLine file (numbersIn f m empty (valueOf y at s)) ≡ found (l .rest) (ranged y f m empty (l .value))
+unfolding ended
+value-said file [] y f m empty at l k d e = absurd (silent e)
+value-said file (b ∷ s) y f m empty at l k d e = elim (decided (eqb b 10)) [
+  | inl h ↦
+      let g = rw (h, ended) at e in
+      let same : record { value = []; rest = s } ≡ l = cc in
+      rw (← same) (at-lf file f m at y b s empty (next-rest file at b s d) h)
+  | inr h ↦
+      let (p, q, g) = parts (ended s) _ (rw (h, ended) at e) in
+      let same : record { value = b ∷ p .value; rest = p .rest } ≡ l = cc in
+      let i = entries-sound (b ∷ p .value) in
+      let u = rw (← same) at (entries-said file (b ∷ s) y 0 0 at l d e) in
+      let w = rw (k, headed-each (readOn y 0 0) (entries (b ∷ p .value)) (i .first) (i .others) (i .are)) at u in
+      rw (← same) (has-byte file f m at y b s empty (p .value) (p .rest) h w)
+]
+
+-- A line of entries of kind y, each in its range.
+pub line-said : (file key : List ℕ) (y f m : ℕ) (empty : Bool) (at : ℕ) → y ≤ 1
+    → saidLine file (entryLine y key f m empty file at) ≡ keyed key (ranged y f m empty) (drop at file)
+line-said file key y f m empty at h = go (openAt key file at) refl (kind y h)
+  where
+    kind : (y : ℕ) → y ≤ 1 → back y ≡ y
+    kind zero h = refl
+    kind (suc zero) h = refl
+    kind (suc (suc y)) h = absurd (omega arith)
+
+    go : (o : Opened) → openAt key file at ≡ o → back y ≡ y → saidLine file (lineIn y f m empty file o) ≡ keyed key (ranged y f m empty) (drop at file)
+    go Missing p k = unfold lineIn saidLine in (sym (keyed-missing key (ranged y f m empty) file at p))
+    go (At c) p k =
+        let t = keyed-at key (ranged y f m empty) file at c p in
+        unfold lineIn in (value-said file (drop (c .at) file) y f m empty (c .at) (t .line) k refl (t .ends) ∙ sym (t .is))
+
+-- Numbers are paper's numbers.
+coded-zero : (j : Judged ℕ) → (j >>= (λ n. says (code 0 n))) ≡ j
+unfolding _>>=_ code
+coded-zero (fault n) = refl
+coded-zero (says n) = refl
+
+each-same : (f g : List ℕ → Judged ℕ) → ((e : List ℕ) → f e ≡ g e) → (es : List (List ℕ)) → each f es ≡ each g es
+unfolding each
+each-same f g h [] = refl
+each-same f g h (e ∷ es) = rw (h e, each-same f g h es)
+
+pub values-numbers : (value : List ℕ) → values 0 value ≡ numbersIn4 value
+unfolding values numbersIn4
+values-numbers value = each-same (readOn 0 0 0) number (λ e. read-number 0 e (λ z. omega arith) ∙ coded-zero (number e)) (entries value)
+
+pub values-numbersOf : (empty : Bool) (value : List ℕ) → valuesOf 0 empty value ≡ numbersOf empty value
+unfolding valuesOf numbersOf
+values-numbersOf false value = values-numbers value
+values-numbersOf true [] = refl
+values-numbersOf true (b ∷ bs) = values-numbers (b ∷ bs)
+
+pub values-some : (y : ℕ) (value : List ℕ) → values y value ≡ says [] → ⊥
+unfolding values
+values-some y value h = each-some (readOn y 0 0) value h
+
+-- A further check of a line.
+unfoldable pub checking : (List ℕ → ℕ) → List ℕ → Judged (List ℕ)
+checking k ns = elim (eqb (k ns) 0) [ true ↦ says ns | false ↦ fault (k ns) ]
+
+-- Go on with what a line said.
+unfoldable pub onward : {X Y : Type 0} → (X → Judged Y) → Said X → Judged (Said Y)
+onward next s = found (s .rest) (next (s .what))
+
+found-more : {X Y : Type 0} (next : X → Judged Y) (r : List ℕ) (j : Judged X) → (found r j >>= onward next) ≡ found r (j >>= next)
+unfolding found onward _>>=_
+found-more next r (fault n) = refl
+found-more next r (says x) = refl
+
+line-more : {X Y : Type 0} (judge : List ℕ → Judged X) (next : X → Judged Y) (j : Judged PaperLine)
+    → ((j >>= (λ l. found (l .rest) (judge (l .value)))) >>= onward next) ≡ (j >>= (λ l. found (l .rest) (judge (l .value) >>= next)))
+unfolding _>>=_
+line-more judge next (fault n) = refl
+line-more judge next (says l) = found-more next (l .rest) (judge (l .value))
+
+key-more : {X Y : Type 0} (judge : List ℕ → Judged X) (next : X → Judged Y) (j : Judged (List ℕ))
+    → ((j >>= (λ behind. ended behind >>= (λ l. found (l .rest) (judge (l .value))))) >>= onward next) ≡ (j >>= (λ behind. ended behind >>= (λ l. found (l .rest) (judge (l .value) >>= next))))
+unfolding _>>=_
+key-more judge next (fault n) = refl
+key-more judge next (says b) = line-more judge next (ended b)
+
+pub judge-more : {X Y : Type 0} (key : List ℕ) (judge : List ℕ → Judged X) (next : X → Judged Y) (bs : List ℕ) → (keyed key judge bs >>= onward next) ≡ keyed key (λ value. judge value >>= next) bs
+unfolding keyed found
+judge-more key judge next bs = key-more judge next (after key bs)
+
+said-checked : (file : List ℕ) (k : List ℕ → ℕ) (l : Line) → saidLine file (checked k l) ≡ (saidLine file l >>= onward (checking k))
+unfolding saidLine checked checking onward found _>>=_
+said-checked file k (bad r) = refl
+said-checked file k (good ns at) = elim (decided (eqb (k ns) 0)) [
+  | inl p ↦ rw (p, checked, checking)
+  | inr p ↦ rw (p, checked, checking)
+]
+
+pub checked-said : (file key : List ℕ) (y f m : ℕ) (empty : Bool) (k : List ℕ → ℕ) (at : ℕ) → y ≤ 1
+    → saidLine file (checked k (entryLine y key f m empty file at)) ≡ keyed key (λ value. ranged y f m empty value >>= checking k) (drop at file)
+checked-said file key y f m empty k at h =
+    said-checked file k _ ∙ ap (λ (j : Judged (Said (List ℕ))). j >>= onward (checking k)) (line-said file key y f m empty at h)
+    ∙ judge-more key (ranged y f m empty) (checking k) (drop at file)
+
+-- A line judged in another way that comes to the same.
+pub keyed-same : {X : Type 0} (key : List ℕ) (f g : List ℕ → Judged X) → ((value : List ℕ) → f value ≡ g value) → (bs : List ℕ) → keyed key f bs ≡ keyed key g bs
+keyed-same key f g h bs = λ i. keyed key (λ value. h value i) bs
+
+-- The value alone, before any further test.
+pub value-found : (file s : List ℕ) (y at : ℕ) (l : PaperLine) → back y ≡ y → drop at file ≡ s → ended s ≡ says l → saidValue file (valueOf y at s) ≡ found (l .rest) (valuesOf y true (l .value))
+unfolding ended
+value-found file [] y at l k d e = absurd (silent e)
+value-found file (b ∷ s) y at l k d e = elim (decided (eqb b 10)) [
+  | inl h ↦
+      let g = rw (h, ended) at e in
+      let same : record { value = []; rest = s } ≡ l = cc in
+      rw (← same) (unfold valueOf saidValue valuesOf found _>>=_ in (rw (h, valueOf) (rw (next-rest file at b s d))))
+  | inr h ↦
+      let (p, q, g) = parts (ended s) _ (rw (h, ended) at e) in
+      let same : record { value = b ∷ p .value; rest = p .rest } ≡ l = cc in
+      let i = entries-sound (b ∷ p .value) in
+      let u = rw (← same) at (entries-said file (b ∷ s) y 0 0 at l d e) in
+      let w = rw (k, headed-each (readOn y 0 0) (entries (b ∷ p .value)) (i .first) (i .others) (i .are)) at u in
+      rw (← same) (unfold valueOf valuesOf values in (rw (h, valueOf) w))
+]

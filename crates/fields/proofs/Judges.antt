@@ -1,0 +1,230 @@
+-- Each line's tests as the code makes them come to paper's judgement of the value.
+use mathlib.Core.Path.{_≡_, refl, sym, ap, _∙_}
+use mathlib.Core.Bool.{Bool, true, false, _&&_, _||_, not, and-eq-true-iff, false≢true}
+use mathlib.Core.Logic.{_⊎_, inl, inr}
+use mathlib.Core.List.{List, [], _∷_, dropLast}
+use Prim.Native.Nat.{ℕ, suc, _+_, _-_, _≤_, _<_, max}
+use native.Mathlib.Omega.{arith}
+use borrow.Author.Tests.{ne-eqb, eqb-true, eqb-false, leb-true, leb-false, le-leb, lt-leb, ltb-true, ltb-false, lt-ltb, le-ltb}
+use lib.Dec.{eqb, leb, ltb}
+use lib.ListN.{length, take, getD}
+use lib.Seq.{getD-take}
+use Rattle.theory.specs.Automaton.{_of_gives_}
+use Rattle.paper.specs.Judged.{Judged, fault, says, _>>=_, _>>_, _unless_}
+use Rattle.paper.specs.Fields.{all, each, entries, number, isNumber}
+use Rattle.paper.specs.Certificate.{Kind, row, Arities, Merge}
+use Rattle.paper.specs.Tables.{numbers as paperNumbers, numbersOf, within, one, list, arityList, ascending as paperAscending, finalList, lastOf, transitionOf, fromNumbers, transition, numbered as paperNumbered, classList}
+use Rattle.paper.proofs.Smallest.{decided}
+use Rattle.fields.specs.Listed.{anyOver, beyond, above, ascending}
+use Rattle.fields.specs.Lines.{finalCheck, fewCheck}
+use Rattle.fields.specs.Merge.{bump, numbered, mergeCheck}
+use Rattle.fields.specs.Said.{moved}
+use Rattle.fields.specs.Trans.{argIn, transOf, transCheck}
+use Rattle.fields.proofs.LinesLaws.{few-ok, few-not, final-ok, final-not}
+use Rattle.fields.proofs.TransLaws.{trans-ok, trans-not}
+use Rattle.fields.proofs.MergeLaws.{merge-count, merge-ok, merge-not}
+use Rattle.fields.proofs.Bridge.{values, valuesOf, inRange, ranged, checking, values-numbers, values-numbersOf, values-some}
+
+-- Steps that come to the same.
+pub bind-same : {X Y : Type 0} (j : Judged X) (f g : X → Judged Y) → ((x : X) → f x ≡ g x) → (j >>= f) ≡ (j >>= g)
+bind-same j f g h = λ i. j >>= (λ x. h x i)
+
+pub bind-said : {X Y : Type 0} (j : Judged X) (f g : X → Judged Y) → ((x : X) → j ≡ says x → f x ≡ g x) → (j >>= f) ≡ (j >>= g)
+unfolding _>>=_
+bind-said (fault n) f g h = refl
+bind-said (says x) f g h = h x refl
+
+pub bind-bind : {X Y Z : Type 0} (j : Judged X) (f : X → Judged Y) (g : Y → Judged Z) → ((j >>= f) >>= g) ≡ (j >>= (λ x. f x >>= g))
+unfolding _>>=_
+bind-bind (fault n) f g = refl
+bind-bind (says x) f g = refl
+
+-- Ranges.
+flip : (m n : ℕ) → not (ltb m n) ≡ leb n m
+flip m n = elim (decided (leb n m)) [
+  | inl p ↦ rw (p, le-ltb m n (leb-true n m p))
+  | inr p ↦ rw (p, lt-ltb m n (leb-false n m p))
+]
+
+not-or : (a b : Bool) → not (a || b) ≡ (not a && not b)
+not-or true b = refl
+not-or false b = refl
+
+none-over : (test : ℕ → Bool) (m : ℕ) → ((n : ℕ) → test n ≡ leb n m) → (ns : List ℕ) → all test ns ≡ not (anyOver m ns)
+unfolding all anyOver
+none-over test m h [] = refl
+none-over test m h (n ∷ ns) = sym (not-or (ltb m n) (anyOver m ns) ∙ rw (flip m n, ← h n, ← none-over test m h ns))
+
+pub none-beyond : (test : ℕ → Bool) (m : ℕ) → ((n : ℕ) → test n ≡ leb n m) → (ns : List ℕ) → all test ns ≡ not (beyond m m ns)
+unfolding beyond all
+none-beyond test m h [] = refl
+none-beyond test m h (n ∷ ns) = none-over test m h (n ∷ ns) ∙ (unfold anyOver in refl)
+
+within-zero : (K : Kind) (n : ℕ) → row K .least ≡ 0 → within K n ≡ leb n (row K .greatest)
+unfolding within
+within-zero K n h = rw (h, le-leb 0 n (omega arith))
+
+pub list-judge : (K : Kind) (value : List ℕ) → row K .least ≡ 0 → list K value ≡ ranged 0 (row K .greatest) (row K .greatest) (row K .empty) value
+unfolding list ranged inRange
+list-judge K value h =
+    rw (← values-numbersOf (row K .empty) value)
+    (bind-same (valuesOf 0 (row K .empty) value) _ _ (λ ns. ap (λ b. 5 unless b >> says ns) (none-beyond (within K) (row K .greatest) (λ n. within-zero K n h) ns)))
+
+-- A check that passes or fails.
+module _ (k : List ℕ → ℕ) (ns : List ℕ) where
+  pub check-passes : k ns ≡ 0 → checking k ns ≡ says ns
+  unfolding checking
+  check-passes h = rw (h, checking)
+
+  pub check-fails : (r : ℕ) → k ns ≡ suc r → checking k ns ≡ fault (suc r)
+  unfolding checking
+  check-fails r h = rw (ne-eqb (k ns) 0 (λ e. omega arith), checking) (ap fault h)
+
+pub arities-judge : (value : List ℕ) → (ranged 0 3 3 false value >>= checking (fewCheck 64)) ≡ arityList value
+unfolding arityList row
+arities-judge value = rw (list-judge Arities value refl) (bind-same (ranged 0 3 3 false value) _ _ count)
+  where
+    count : (ns : List ℕ) → checking (fewCheck 64) ns ≡ (6 unless leb (length ns) 64 >> says ns)
+    count ns = elim (decided (leb (length ns) 64)) [
+      | inl p ↦ unfold _unless_ _>>_ in (rw p (check-passes (fewCheck 64) ns (few-ok 64 ns (leb-true (length ns) 64 p))))
+      | inr p ↦ unfold _unless_ _>>_ in (rw p (check-fails (fewCheck 64) ns 5 (few-not 64 ns (leb-false (length ns) 64 p))))
+    ]
+
+-- `merge`.
+same-bump : (k c : ℕ) → c ≤ k → bump k c ≡ max k (suc c)
+unfolding bump
+same-bump k c h = elim (decided (eqb c k)) [
+  | inl p ↦ rw (p, bump) (omega (arith, eqb-true c k p))
+  | inr p ↦ let d = eqb-false c k p in rw (p, bump) (elim (lt-or k c h d) [ inl q ↦ omega (arith, q) | inr q ↦ omega (arith, q) ])
+]
+  where
+    lt-or : (k c : ℕ) → c ≤ k → (c ≡ k → ⊥) → (c < k) ⊎ (c < k)
+    lt-or k c h d = inl (omega (arith, d))
+
+same-numbered : (k : ℕ) (cs : List ℕ) → numbered k cs ≡ paperNumbered k cs
+unfolding numbered paperNumbered
+same-numbered k [] = refl
+same-numbered k (c ∷ cs) = elim (decided (leb c k)) [
+  | inl p ↦ let h = leb-true c k p in rw (p, le-ltb k c h, numbered) (rw (same-bump k c h) (same-numbered (max k (suc c)) cs))
+  | inr p ↦ rw (p, lt-ltb k c (leb-false c k p), numbered)
+]
+
+pub merge-judge : (n : ℕ) (value : List ℕ) → (ranged 0 31 31 false value >>= checking (mergeCheck n)) ≡ classList n value
+unfolding classList row
+merge-judge n value = rw (list-judge Merge value refl) (bind-same (ranged 0 31 31 false value) _ _ test)
+  where
+    test : (cs : List ℕ) → checking (mergeCheck n) cs ≡ (6 unless eqb (length cs) n >> (11 unless paperNumbered 0 cs >> says cs))
+    test cs = elim (decided (eqb (length cs) n)) [
+      | inr p ↦ unfold _unless_ _>>_ in (rw p (check-fails (mergeCheck n) cs 5 (merge-count n cs (eqb-false (length cs) n p))))
+      | inl p ↦ elim (decided (numbered 0 cs)) [
+        | inl q ↦ unfold _unless_ _>>_ in (rw (p, ← same-numbered 0 cs, q) (check-passes (mergeCheck n) cs (merge-ok n cs (eqb-true (length cs) n p) q)))
+        | inr q ↦ unfold _unless_ _>>_ in (rw (p, ← same-numbered 0 cs, q) (check-fails (mergeCheck n) cs 10 (merge-not n cs (eqb-true (length cs) n p) q)))
+      ]
+    ]
+
+-- `final`.
+same-above : (v : ℕ) (ns : List ℕ) → above v ns ≡ paperAscending (suc v) ns
+unfolding above paperAscending
+same-above v [] = refl
+same-above v (w ∷ ns) = ap (λ b. ltb v w && b) (same-above w ns)
+
+same-ascending : (ns : List ℕ) → ascending ns ≡ paperAscending 0 ns
+unfolding ascending paperAscending
+same-ascending [] = refl
+same-ascending (v ∷ ns) = rw (le-leb 0 v (omega arith)) (same-above v ns)
+
+below-all : (n : ℕ) (K : Kind) → row K .least ≡ 0 → n ≤ suc (row K .greatest) → (ns : List ℕ) → all (λ q. ltb q n) ns ≡ true → all (within K) ns ≡ true
+unfolding all
+below-all n K z h [] e = refl
+below-all n K z h (q ∷ qs) e =
+    let (a, b) = and-eq-true-iff (ltb q n) (all (λ q. ltb q n) qs) .0 e in
+    rw (within-zero K q z, le-leb q (row K .greatest) (omega (arith, ltb-true q n a)), below-all n K z h qs b)
+
+below-flip : (n q : ℕ) → 1 ≤ n → ltb q n ≡ leb q (n - 1)
+below-flip n q h = elim (decided (ltb q n)) [
+  | inl p ↦ rw (p, le-leb q (n - 1) (omega (arith, ltb-true q n p)))
+  | inr p ↦ rw (p, lt-leb q (n - 1) (omega (arith, ltb-false q n p)))
+]
+
+final-check : (ns : List ℕ) → checking finalCheck ns ≡ (7 unless paperAscending 0 ns >> says ns)
+unfolding _unless_ _>>_
+final-check ns = elim (decided (ascending ns)) [
+  | inl p ↦ rw (← same-ascending ns, p) (check-passes finalCheck ns (final-ok ns p))
+  | inr p ↦ rw (← same-ascending ns, p) (check-fails finalCheck ns 6 (final-not ns p))
+]
+
+final-test : (ns : List ℕ) (t : List ℕ → Bool) (a b c : Bool) → t ns ≡ b → (t ns ≡ true → a ≡ true) → t ns ≡ not c
+    → ((5 unless not c >> says ns) >>= checking finalCheck) ≡ ((5 unless a >> says ns) >>= (λ qs. 5 unless t qs >> (7 unless paperAscending 0 qs >> says qs)))
+unfolding _unless_ _>>_ _>>=_
+final-test ns t a true true e h k = absurd (false≢true (sym k ∙ e))
+final-test ns t true true false e h k = rw e (final-check ns)
+final-test ns t false true false e h k = absurd (false≢true (h e))
+final-test ns t true false true e h k = rw e
+final-test ns t false false true e h k = refl
+final-test ns t a false false e h k = absurd (false≢true (sym e ∙ k))
+
+pub final-judge : (K : Kind) (n : ℕ) (value : List ℕ) → row K .least ≡ 0 → row K .empty ≡ true → 1 ≤ n → n ≤ suc (row K .greatest)
+    → (ranged 0 (n - 1) (n - 1) true value >>= checking finalCheck) ≡ finalList K n value
+unfolding finalList list ranged inRange
+final-judge K n value z e l g =
+    rw (e, ← values-numbersOf true value)
+    (bind-bind (valuesOf 0 true value) (inRange (n - 1) (n - 1)) (checking finalCheck)
+    ∙ bind-same (valuesOf 0 true value) _ _ (λ ns. final-test ns (all (λ q. ltb q n)) (all (within K) ns) (all (λ q. ltb q n) ns) (beyond (n - 1) (n - 1) ns) refl (below-all n K z g ns) (none-beyond (λ q. ltb q n) (n - 1) (λ q. below-flip n q l) ns))
+    ∙ sym (bind-bind (valuesOf 0 true value) (λ ns. 5 unless all (within K) ns >> says ns) (λ qs. 5 unless all (λ q. ltb q n) qs >> (7 unless paperAscending 0 qs >> says qs))))
+
+-- A line of one number.
+unfoldable pub oneOf : Kind → List ℕ → Judged ℕ
+oneOf K ns = 4 unless eqb (length ns) 1 >> (5 unless all (within K) ns >> says (getD ns 0 0))
+
+pub one-judge : (K : Kind) (value : List ℕ) → row K .empty ≡ false → (valuesOf 0 true value >>= oneOf K) ≡ one K value
+unfolding one oneOf
+one-judge K [] e = rw e (unfold valuesOf numbersOf paperNumbers each entries number isNumber _unless_ _>>_ _>>=_ in refl)
+one-judge K (b ∷ bs) e = rw (e, values-numbersOf true (b ∷ bs)) (unfold numbersOf in refl)
+
+-- A transition's line.
+shape : (arities : List ℕ) (f : ℕ) (qs : List ℕ) → length qs ≡ getD arities f 0 + 1 → getD arities f 0 ≤ 3 → moved arities (transOf (f ∷ qs)) ≡ (f of dropLast qs gives lastOf qs)
+unfolding moved transOf argIn lastOf
+shape arities f [] e h = absurd (omega arith)
+shape arities f (q ∷ []) e h = let p : getD arities f 0 ≡ 0 = omega arith in rw p
+shape arities f (q ∷ r ∷ []) e h = let p : getD arities f 0 ≡ 1 = omega arith in rw p
+shape arities f (q ∷ r ∷ s ∷ []) e h = let p : getD arities f 0 ≡ 2 = omega arith in rw p
+shape arities f (q ∷ r ∷ s ∷ t ∷ []) e h = let p : getD arities f 0 ≡ 3 = omega arith in rw p
+shape arities f (q ∷ r ∷ s ∷ t ∷ u ∷ qs) e h = absurd (omega arith)
+
+module _ (arities : List ℕ) (S n : ℕ) (few : length (take S arities) ≡ S) (low : (k : ℕ) → getD arities k 0 ≤ 3) (one-symbol : 1 ≤ S) (one-state : 1 ≤ n) where
+  trans-range : (f : ℕ) (qs : List ℕ) → not (beyond (S - 1) (n - 1) (f ∷ qs)) ≡ (ltb f (length (take S arities)) && all (λ q. ltb q n) qs)
+  unfolding beyond
+  trans-range f qs = not-or (ltb (S - 1) f) (anyOver (n - 1) qs) ∙ rw (few, flip (S - 1) f, ← below-flip S f one-symbol, ← none-over (λ q. ltb q n) (n - 1) (λ q. below-flip n q one-state) qs)
+
+  trans-test : (f : ℕ) (qs : List ℕ) → ltb f (length (take S arities)) ≡ true
+      → (checking (transCheck arities) (f ∷ qs) >>= (λ ns. says (moved arities (transOf ns)))) ≡ (6 unless eqb (length qs) (getD (take S arities) f 0 + 1) >> says (f of dropLast qs gives lastOf qs))
+  unfolding _unless_ _>>_ _>>=_
+  trans-test f qs l =
+      let listed : f < S = omega (arith, ltb-true f (length (take S arities)) l) in
+      let arity = getD-take S arities f 0 listed in
+      elim (decided (eqb (length qs) (getD arities f 0 + 1))) [
+        | inl p ↦
+            let count = eqb-true (length qs) (getD arities f 0 + 1) p in
+            rw (arity, p, check-passes (transCheck arities) (f ∷ qs) (trans-ok arities (f ∷ qs) (omega arith))) (ap says (shape arities f qs count (low f)))
+        | inr p ↦
+            let count = eqb-false (length qs) (getD arities f 0 + 1) p in
+            rw (arity, p, check-fails (transCheck arities) (f ∷ qs) 5 (trans-not arities (f ∷ qs) (λ e. count (omega arith))))
+      ]
+
+  trans-line : (ns : List ℕ) → (ns ≡ [] → ⊥) → ((inRange (S - 1) (n - 1) ns >>= checking (transCheck arities)) >>= (λ ns. says (moved arities (transOf ns)))) ≡ fromNumbers (take S arities) n ns
+  trans-line [] h = absurd (h refl)
+  trans-line (f ∷ qs) h = unfold fromNumbers transitionOf inRange in (rw (trans-range f qs) (go (ltb f (length (take S arities))) (all (λ q. ltb q n) qs) refl))
+    where
+      go : (a b : Bool) → ltb f (length (take S arities)) ≡ a
+          → (((5 unless (a && b) >> says (f ∷ qs)) >>= checking (transCheck arities)) >>= (λ ns. says (moved arities (transOf ns)))) ≡ (5 unless (a && b) >> (6 unless eqb (length qs) (getD (take S arities) f 0 + 1) >> says (f of dropLast qs gives lastOf qs)))
+      go true true e = unfold _unless_ _>>_ _>>=_ in (trans-test f qs e)
+      go true false e = unfold _unless_ _>>_ _>>=_ in refl
+      go false b e = unfold _unless_ _>>_ _>>=_ in refl
+
+  pub trans-judge : (value : List ℕ) → ((ranged 0 (S - 1) (n - 1) false value >>= checking (transCheck arities)) >>= (λ ns. says (moved arities (transOf ns)))) ≡ transition (take S arities) n value
+  unfolding transition ranged valuesOf
+  trans-judge value =
+      ap (λ (j : Judged (List ℕ)). j >>= (λ ns. says (moved arities (transOf ns)))) (bind-bind (values 0 value) (inRange (S - 1) (n - 1)) (checking (transCheck arities)))
+      ∙ bind-bind (values 0 value) (λ ns. inRange (S - 1) (n - 1) ns >>= checking (transCheck arities)) (λ ns. says (moved arities (transOf ns)))
+      ∙ bind-said (values 0 value) _ _ (λ ns e. trans-line ns (λ z. values-some 0 value (e ∙ ap says z)))
+      ∙ ap (λ (j : Judged (List ℕ)). j >>= fromNumbers (take S arities) n) (values-numbers value)

@@ -1,0 +1,17 @@
+pub mod Rest
+pub mod NumberLaws
+pub mod LineLaws
+pub mod ValueLaws
+pub mod OneLaws
+pub mod ListLaws
+pub mod LinesLaws
+pub mod TransLaws
+pub mod TellLaws
+pub mod Whole
+pub mod MergeLaws
+pub mod TokenLaws
+pub mod Digits
+pub mod Entries
+pub mod Bridge
+pub mod Judges
+pub mod SaidLaws

@@ -1,0 +1,9 @@
+pub mod Number
+pub mod Value
+pub mod Line
+pub mod Listed
+pub mod Lines
+pub mod Trans
+pub mod Merge
+pub mod Padded
+pub mod Said

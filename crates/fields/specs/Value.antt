@@ -1,0 +1,77 @@
+-- The value of a line: its numbers, parted by commas and ended by LF, and the place after the LF.
+-- Assumes nothing: these are definitions.
+use Prim.Native.Nat.{ℕ, zero, suc, _+_, _*_, _-_, _<_}
+use mathlib.Core.List.{List, [], _∷_}
+use mathlib.Core.Bool.{true, false, _&&_}
+use lib.Dec.{eqb, leb}
+use Rattle.theory.specs.Preorder.{Token, function, argument}
+use Rattle.fields.specs.Number.{isDigit, full, numberFrom}
+use Rattle.fields.specs.declared.cursor.Field.{Field}
+use Rattle.fields.specs.declared.cursor.Field.the-variants.{Read, Refused}
+
+-- the entries of a value and the place behind its LF, or none
+pub data Value : Type 0 where
+  numbers : List ℕ → ℕ → Value
+  notNumbers : Value
+
+-- one more entry in front
+abbrev pub withFirst : ℕ → Value → Value
+withFirst v (numbers ns at) = numbers (v ∷ ns) at
+withFirst v notNumbers = notNumbers
+
+-- An entry is a number (kind 0), or a token: a symbol (kind 1) or, after an `x`, a variable (kind 2). It is coded as one number, so that a
+-- limit on it is one limit: variables 0 to 3 as they are, symbols from 4 on, and a variable above 3 past every limit.
+unfoldable pub code : ℕ → ℕ → ℕ
+code zero v = v
+code (suc zero) v = v + 4
+code (suc (suc y)) v = elim (leb v 3) [ true ↦ v | false ↦ v + 100000000 ]
+
+-- The number that stands for a token while a line is read.
+unfoldable pub codeOf : Token → ℕ
+codeOf (function f) = code 1 f
+codeOf (argument x) = code 2 x
+
+-- the kind at the start of the next entry
+abbrev pub back : ℕ → ℕ
+back zero = 0
+back (suc y) = 1
+
+-- the entries from `at` on, where s stands; n digits of value v of the first of them, of kind y, stand before `at`
+unfoldable pub entriesFrom : ℕ → ℕ → ℕ → ℕ → List ℕ → Value
+entriesFrom y n v at [] = notNumbers
+entriesFrom y n v at (b ∷ s) =
+    elim (isDigit b) [
+      | true ↦ elim (full n v) [ true ↦ notNumbers | false ↦ entriesFrom y (n + 1) (v * 10 + (b - 48)) (at + 1) s ]
+      | false ↦ elim (eqb n 0) [
+        | true ↦ elim (eqb y 1 && eqb b 120) [ true ↦ entriesFrom 2 0 0 (at + 1) s | false ↦ notNumbers ]
+        | false ↦ elim (eqb b 10) [
+          | true ↦ numbers (code y v ∷ []) (at + 1)
+          | false ↦ elim (eqb b 44) [ true ↦ withFirst (code y v) (entriesFrom (back y) 0 0 (at + 1) s) | false ↦ notNumbers ]
+        ]
+      ]
+    ]
+
+-- the value at `at`, where s stands: nothing before the LF, or entries of kind y
+unfoldable pub valueOf : ℕ → ℕ → List ℕ → Value
+valueOf y at [] = notNumbers
+valueOf y at (b ∷ s) = elim (eqb b 10) [ true ↦ numbers [] (at + 1) | false ↦ entriesFrom y 0 0 at (b ∷ s) ]
+
+-- the value as numbers
+abbrev pub valueAt : ℕ → List ℕ → Value
+valueAt at s = valueOf 0 at s
+
+-- one entry of kind y at `at`
+unfoldable pub coded : ℕ → Field → Field
+coded y (Read v c) = Read (code y v) c
+coded y (Refused r) = Refused r
+
+-- one entry at `at`, where s stands: a number (kind 0) or a token (kind 1)
+unfoldable pub entryAt : ℕ → ℕ → List ℕ → Field
+entryAt zero at s = numberFrom 0 0 at s
+entryAt (suc y) at [] = Refused 4
+entryAt (suc y) at (b ∷ s) = elim (eqb b 120) [ true ↦ coded 2 (numberFrom 0 0 (at + 1) s) | false ↦ coded 1 (numberFrom 0 0 at (b ∷ s)) ]
+
+-- a field's number has at most eight digits
+abbrev pub fieldBelow : Field → Type 0
+fieldBelow (Read v c) = v < 100000000
+fieldBelow (Refused r) = Unit {0}

@@ -1,0 +1,3 @@
+pub mod PassLaws
+pub mod SideLaws
+pub mod SidesTold
