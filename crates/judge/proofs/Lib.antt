@@ -1,0 +1,5 @@
+pub mod Merge
+pub mod Seek
+pub mod Pairing
+pub mod Bridge
+pub mod Whole

@@ -1,0 +1,86 @@
+-- The search over the woven table is the paper's over the merged automaton, and the verdict is put together from sharing and the search.
+use mathlib.Core.Path.{_≡_, refl, sym, ap, _∙_}
+use mathlib.Core.List.{List, map, List·Memᴰ}
+use mathlib.Core.Option.{none, some}
+use Prim.Native.Nat.{ℕ, suc, _*_, _≤_, _<_}
+use native.Mathlib.Omega.{arith}
+use lib.ListN.{length, getD, length-map}
+use Rattle.theory.specs.Lists.{countFrom}
+use Rattle.theory.specs.Automaton.{Automaton, Transition, InRange}
+use Rattle.theory.specs.Merging.{classes, merged}
+use Rattle.theory.proofs.Count.{length-count}
+use Rattle.theory.proofs.Grow.{Contained}
+use Rattle.theory.proofs.Merged.{merged-in-range}
+use Rattle.paper.specs.Limits.{mostRules, mostStates}
+use Rattle.paper.specs.Verdict.{unsuitable, cases, sharedPair, examine, judge, verdict}
+use Rattle.tables.specs.declared.Tables.{Tables}
+use Rattle.tables.specs.declared.Merging.{Merging}
+use Rattle.tables.specs.Held.{movesOf, automatonOf as tableOf, aritiesOf, rulesOf, mergeOf, held}
+use Rattle.tables.specs.Sound.{Sound}
+use Rattle.woven.specs.Woven.{wovenMoves, Flat, Indexed, SameMoves}
+use Rattle.woven.proofs.Members.{examine-same}
+use Rattle.lanes.specs.Automaton.{automatonOf}
+use Rattle.search.specs.Searched.{Searchable}
+use Rattle.judge.specs.Merged.{Merged}
+use Rattle.judge.specs.Judged.{mergedOf, badOf}
+use Rattle.judge.proofs.Bridge.{few-initial, few-states, rank, moves-merged}
+
+module _ (t : Tables) (m : Merging) (s : Sound t m) where
+  abbrev ar : List ℕ
+  ar = aritiesOf t
+
+  module _ (bytes : List ℕ) (w : Merged (t .initial .rows) (m .merge) (t .initial .count * 5) bytes) where
+    -- The merged rows can be woven.
+    pub weavable : Flat bytes (t .initial .count)
+    weavable = record { long = omega (arith, w .long, few-initial t m s); most = few-initial t m s; small = w .small }
+
+    module _ (words heads : List ℕ) (indexed : Indexed words heads) (same : SameMoves bytes words heads (t .initial .count)) where
+      abbrev woven : Automaton
+      woven = automatonOf ar words heads (m .classes)
+
+      -- The words mean the merged automaton's transitions.
+      there : Contained woven (mergedOf t m)
+      unfolding automatonOf
+      there tr n = rw (moves-merged t m s bytes w) at (same .same ar tr .0 n)
+
+      back : Contained (mergedOf t m) woven
+      unfolding automatonOf
+      back tr n = same .same ar tr .1 (rw (← moves-merged t m s bytes w) at n)
+
+      inside : InRange woven
+      unfolding automatonOf merged
+      inside = record { targets = λ tr n. omega (arith, s .classes, merged-in-range (mergeOf t m) (tableOf ar (t .initial)) .targets tr (there tr n)) }
+
+      few-rules : t .rules .count ≤ mostRules
+      unfolding held rulesOf
+      few-rules = omega (arith, s .well .most-rules, length-map (countFrom 0 (t .rules .count)) (Rattle.tables.specs.Held.ruleAt ar (t .rules)), length-count 0 (t .rules .count))
+
+      -- The search relies on nothing else.
+      pub searchable : Searchable ar words heads (t .rules) (m .classes)
+      unfolding held classes
+      searchable = record {
+        indexed = indexed;
+        in-range = inside;
+        ranks = rank t m s;
+        sound = s .rules;
+        shaped = λ rule n. s .well .rules rule n .shaped;
+        few = s .few;
+        most-rules = few-rules;
+        some-class = omega (arith, s .classes);
+        most-classes = omega (arith, few-states t m s .2);
+      }
+
+      -- What it says is what the paper says of the merged automaton.
+      pub examined-is : (budget : ℕ) → examine woven (cases (m .classes) 0 (rulesOf ar (t .rules))) budget 0 ≡ examine (mergedOf t m) (cases (mergedOf t m .states) 0 (rulesOf ar (t .rules))) budget 0
+      unfolding automatonOf merged
+      examined-is budget = examine-same woven (mergedOf t m) there back (s .classes) (cases (m .classes) 0 (rulesOf ar (t .rules))) budget 0 ∙ ap (λ k. examine (mergedOf t m) (cases k 0 (rulesOf ar (t .rules))) budget 0) (s .classes)
+
+-- The verdict, where a final pair shares a tree ..
+pub verdict-shared : (t : Tables) (m : Merging) (q p : ℕ) → sharedPair (mergedOf t m) (badOf t) ≡ some (q, p) → verdict (held t m) ≡ unsuitable q p
+unfolding verdict judge held
+verdict-shared t m q p e = rw (e, judge)
+
+-- .. and where none does.
+pub verdict-searched : (t : Tables) (m : Merging) → sharedPair (mergedOf t m) (badOf t) ≡ none → verdict (held t m) ≡ examine (mergedOf t m) (cases (mergedOf t m .states) 0 (rulesOf (aritiesOf t) (t .rules))) (t .budget) 0
+unfolding verdict judge held
+verdict-searched t m e = rw (e, judge)

@@ -1,0 +1,3 @@
+pub mod Merged
+pub mod Pairs
+pub mod Judged

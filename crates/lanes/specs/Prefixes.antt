@@ -1,0 +1,29 @@
+-- The classes that a prefix of a rule's variables has, and what is left to choose.
+use mathlib.Core.Bool.{cond}
+use mathlib.Core.List.{List, [], _∷_}
+use Prim.Native.Nat.{ℕ, zero, suc, _+_, _-_, max, min}
+use lib.Dec.{eqb, ltb}
+
+-- How many of v variables are left where the first i have their classes: the last one is always left, since all its classes are judged at once.
+unfoldable pub rest : ℕ → ℕ → ℕ
+rest v i = max (v - i) (min v 1)
+
+-- How many classes the variable i runs through by itself: k, or one where it is the last or there is none.
+unfoldable pub choices : ℕ → ℕ → ℕ → ℕ
+choices k v i = cond (ltb (i + 1) v) k 1
+
+-- The substitution of v variables in lane j: the first have the classes x0, x1, x2, and the last has the class j.
+unfoldable pub chosen : ℕ → ℕ → ℕ → ℕ → ℕ → List ℕ
+chosen zero x0 x1 x2 j = []
+chosen (suc zero) x0 x1 x2 j = j ∷ []
+chosen (suc (suc zero)) x0 x1 x2 j = x0 ∷ j ∷ []
+chosen (suc (suc (suc zero))) x0 x1 x2 j = x0 ∷ x1 ∷ j ∷ []
+chosen (suc (suc (suc (suc v)))) x0 x1 x2 j = x0 ∷ x1 ∷ x2 ∷ j ∷ []
+
+-- The code of the variable i with the class x, where the variable `own` has its lane's class and the later ones have the code `later`.
+unfoldable pub codeOf : (own later i x : ℕ) → ℕ
+codeOf own later i x = cond (ltb i own) x (cond (eqb i own) 64 later)
+
+-- The codes of the four variables.
+unfoldable pub codesOf : (own later x0 x1 x2 : ℕ) → List ℕ
+codesOf own later x0 x1 x2 = codeOf own later 0 x0 ∷ (codeOf own later 1 x1 ∷ (codeOf own later 2 x2 ∷ (codeOf own later 3 0 ∷ [])))

@@ -1,0 +1,3 @@
+// Blocks of substitutions: those that differ in a rule's last variable alone, judged all at once.
+pub mod block;
+pub mod prefixes;

@@ -1,0 +1,4 @@
+pub mod Order
+pub mod Walk
+pub mod Steps
+pub mod Turns

@@ -1,0 +1,22 @@
+-- `sharing::arg_in` meets its contract. Assumes nothing.
+use borrow.Author.Needs.{needs}
+use mathlib.Core.Path.{_≡_, sym, ap, _∙_, subst}
+use Prim.Native.Nat.{ℕ, _<_}
+use Rattle.sets.specs.Sets.{mem}
+use Rattle.sharing.proofs.arg_in.Statement.{statement}
+use Rattle.sharing.proofs.arg_in.Tie as tie
+
+shared-slice-read-wide : tie.Need-shared-slice-read-wide
+shared-slice-read-wide c = search needs
+
+wide-requires : tie.Need-wide-requires
+wide-requires c κs = search needs
+
+has-requires : tie.Need-has-requires
+has-requires c κs = subst (λ (n : ℕ). n < 64) (sym (c .wide .ensures)) (c .before .before .before .pre .1 (c .before .before .before .args .i))
+
+returns : tie.Need-returns
+returns c = c .has .ensures ∙ ap (mem (c .before .before .before .before .args .set)) (c .before .wide .ensures)
+
+pub arg-in-spec : {M : Type 1} → statement M
+arg-in-spec = tie.close (tie.spec shared-slice-read-wide wide-requires has-requires returns)

@@ -1,0 +1,78 @@
+-- Sharing over flat tables: five bytes to a transition, and for each class a mask of states of B.
+use Prim.Native.Nat.{ℕ, _+_, _*_, _/_, _^_, _≤_, _<_}
+use mathlib.Core.Bool.{Bool, true, false, _&&_, _||_}
+use mathlib.Core.List.{List, [], _∷_}
+use mathlib.Core.Path.{_≡_}
+use lib.Dec.{eqb, leb}
+use lib.ListN.{length, getD}
+use Rattle.theory.specs.Automaton.{Automaton}
+use Rattle.theory.specs.Critical.{Share}
+use Rattle.sets.specs.Sets.{mem}
+use Rattle.tables.specs.Held.{movesOf}
+
+-- The automaton of a flat table: all of its rows. Sharing looks at the transitions alone.
+abbrev pub flat : (ar rows : List ℕ) → Automaton
+flat ar rows = record { states = 64; transitions = movesOf ar rows (length rows / 5); final = [] }
+
+-- Every byte of the table is a place of a mask.
+abbrev pub Small : List ℕ → Type 0
+Small rows = (i : ℕ) → getD rows i 0 < 64
+
+-- Byte i of row j.
+abbrev pub arg : List ℕ → ℕ → ℕ → ℕ
+arg rows j i = getD rows (j * 5 + i) 0
+
+-- A mask for each class, as a relation.
+abbrev pub rel : List ℕ → ℕ → ℕ → Bool
+rel pairs c b = mem (getD pairs c 0) b
+
+-- Rows j and m are of one symbol, and their arguments are related, as many as the symbol has.
+unfoldable pub joins : (merged bad ar : List ℕ) → (ℕ → ℕ → Bool) → ℕ → ℕ → Bool
+joins merged bad ar r j m =
+    eqb (getD merged (j * 5) 0) (getD bad (m * 5) 0)
+    && ((leb (getD ar (getD merged (j * 5) 0) 0) 0 || r (arg merged j 1) (arg bad m 1))
+    && ((leb (getD ar (getD merged (j * 5) 0) 0) 1 || r (arg merged j 2) (arg bad m 2))
+    && (leb (getD ar (getD merged (j * 5) 0) 0) 2 || r (arg merged j 3) (arg bad m 3))))
+
+-- What two rows would add is there.
+abbrev pub ClosedAt : (merged bad ar pairs : List ℕ) → ℕ → ℕ → Type 0
+ClosedAt merged bad ar pairs j m = joins merged bad ar (rel pairs) j m ≡ true → rel pairs (arg merged j 4) (arg bad m 4) ≡ true
+
+-- Every marked pair shares a tree.
+abbrev pub Sound : (merged bad ar pairs : List ℕ) → Type 0
+Sound merged bad ar pairs = (c b : ℕ) → rel pairs c b ≡ true → Share (flat ar merged) (flat ar bad) c b
+
+-- Each mask is a word of 64 bits.
+abbrev pub Words : List ℕ → Type 0
+Words pairs = (i : ℕ) → getD pairs i 0 < 2 ^ 64
+
+-- The sum of the masks.
+unfoldable pub sum : List ℕ → ℕ
+sum [] = 0
+sum (x ∷ xs) = x + sum xs
+
+-- One step, or several: what is added is shared, a change makes the sum grow, and no change means that all that was looked at is closed.
+pub record Grown (merged bad ar pairs pairs′ : List ℕ) (changed : Bool) (closed : Type 0) : Type 0 where
+  pub long : length pairs′ ≡ length pairs
+  pub words : Words pairs → Words pairs′
+  pub sound : Sound merged bad ar pairs → Sound merged bad ar pairs′
+  pub same : changed ≡ false → (pairs′ ≡ pairs) × closed
+  pub more : changed ≡ true → sum pairs < sum pairs′
+
+-- Row j with the first n rows of the bad table.
+abbrev pub SweptTo : (merged bad ar pairs : List ℕ) → ℕ → ℕ → Type 0
+SweptTo merged bad ar pairs j n = (m : ℕ) → m < n → ClosedAt merged bad ar pairs j m
+
+-- The first n rows with every row of the bad table.
+abbrev pub PassedTo : (merged bad ar pairs : List ℕ) → ℕ → Type 0
+PassedTo merged bad ar pairs n = (j : ℕ) → j < n → SweptTo merged bad ar pairs j (length bad / 5)
+
+-- Exactly the pairs that share a tree are marked.
+abbrev pub Exact : (merged bad ar pairs : List ℕ) → Type 0
+Exact merged bad ar pairs = (c b : ℕ) → (rel pairs c b ≡ true → Share (flat ar merged) (flat ar bad) c b) × (Share (flat ar merged) (flat ar bad) c b → rel pairs c b ≡ true)
+
+-- The numbers in the tables that the code relies on.
+pub record Tables (merged bad ar : List ℕ) : Type 0 where
+  pub small : Small merged
+  pub bad-small : Small bad
+  pub rank : (f : ℕ) → getD ar f 0 ≤ 3

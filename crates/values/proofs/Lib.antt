@@ -1,0 +1,4 @@
+pub mod Matrix
+pub mod Gathering
+pub mod Standing
+pub mod Spanned
