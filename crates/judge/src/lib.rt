@@ -33,7 +33,15 @@ pub fn first_critical(t: Tables, m: Merging, merged: Rows) -> Verdict
     let woven = weave(&bytes, initial.count);
     let words = woven.words;
     let heads = woven.heads;
-    search(&words, &heads, &arities, t.symbols, rules, m.classes as u64, t.budget)
+    search(
+        &words,
+        &heads,
+        &arities,
+        t.symbols,
+        rules,
+        m.classes as u64,
+        t.budget,
+    )
 }
 
 // The verdict on the tables and the merging: unsuitable where a final pair shares a tree, else what the search says.

@@ -1,0 +1,173 @@
+//! Whole certificates through the public operation, beside the reference, in one run: answers are compared, times are the best of several
+//! runs of each in turn, by processor time, and the ratio is the checker's time over the reference's.
+use std::hint::black_box;
+use std::path::PathBuf;
+
+/// The processor time that this process has used, in seconds.
+fn processor_time() -> f64 {
+    #[repr(C)]
+    struct Time {
+        seconds: i64,
+        nanoseconds: i64,
+    }
+    extern "C" {
+        fn clock_gettime(clock: i32, time: *mut Time) -> i32;
+    }
+    const PROCESS_CPUTIME: i32 = 2;
+    let mut time = Time { seconds: 0, nanoseconds: 0 };
+    // SAFETY: `time` is valid for the call to fill.
+    unsafe { clock_gettime(PROCESS_CPUTIME, &mut time) };
+    time.seconds as f64 + time.nanoseconds as f64 * 1e-9
+}
+
+/// Runs both on the files, and prints times, their ratio and, where substitutions were examined, the time for each of them.
+fn compare(name: &str, files: &[Vec<u8>], rounds: usize) {
+    let mut examined = 0u64;
+    for file in files {
+        let ours = mergecheck::answer(file);
+        let theirs = reference::answer(file).1;
+        assert_eq!(ours.as_bytes(), &theirs[..], "{name}: the answers differ");
+        let last = ours.trim_end().rsplit('=').next().unwrap();
+        examined += last.parse::<u64>().unwrap_or(0);
+    }
+    let (mut checker, mut other) = (f64::MAX, f64::MAX);
+    for _ in 0..7 {
+        let start = processor_time();
+        for _ in 0..rounds {
+            for file in files {
+                let mut out = [0u8; mergecheck::BUFFER];
+                black_box(mergecheck::check(black_box(file), &mut out));
+            }
+        }
+        checker = checker.min((processor_time() - start) / rounds as f64);
+        let start = processor_time();
+        for _ in 0..rounds {
+            for file in files {
+                black_box(reference::answer(black_box(file)));
+            }
+        }
+        other = other.min((processor_time() - start) / rounds as f64);
+    }
+    let per = |time: f64| if examined > 0 { format!("{:.3}", time * 1e9 / examined as f64) } else { "-".into() };
+    println!(
+        "{name:<44} {examined:>10} {:>12.3} {:>12.3} {:>9} {:>9} {:>6.2}",
+        checker * 1e3,
+        other * 1e3,
+        per(checker),
+        per(other),
+        checker / other
+    );
+}
+
+/// A certificate of 32 states, nothing merged, with these transitions and this rule written n times; no final states.
+fn certificate(arities: &[u8], rows: &[Vec<u8>], side: &str, n: usize, budget: u32) -> Vec<u8> {
+    let list = |numbers: &[u8]| numbers.iter().map(u8::to_string).collect::<Vec<_>>().join(",");
+    let mut text = format!("budget={budget}\narities={}\nstates=32\nfinal=\ntrans={}\n", list(arities), rows.len());
+    for row in rows {
+        text += &format!("t={}\n", list(row));
+    }
+    text += &format!("badstates=1\nbadfinal=\nbadtrans=0\nrules={n}\n");
+    for _ in 0..n {
+        text += &format!("l={side}\nr={side}\n");
+    }
+    text += &format!("merge={}\n", list(&(0..32).collect::<Vec<u8>>()));
+    text.into_bytes()
+}
+
+/// Numbers that look random, the same in every run.
+struct Numbers(u64);
+
+impl Numbers {
+    fn below(&mut self, most: u64) -> u8 {
+        self.0 ^= self.0 << 13;
+        self.0 ^= self.0 >> 7;
+        self.0 ^= self.0 << 17;
+        (self.0 % most) as u8
+    }
+}
+
+fn example(name: &str) -> Vec<u8> {
+    let path = PathBuf::from(env!("CARGO_MANIFEST_DIR")).join("../examples").join(name);
+    std::fs::read(&path).unwrap_or_else(|e| panic!("{}: {e}", path.display()))
+}
+
+/// The corpus of `trials`: each certificate after its length in two bytes.
+fn corpus() -> Vec<Vec<u8>> {
+    let path = PathBuf::from(env!("CARGO_MANIFEST_DIR")).join("../crates/trials/stdin");
+    let stream = std::fs::read(&path).unwrap_or_else(|e| panic!("{}: {e}", path.display()));
+    let (mut files, mut at) = (Vec::new(), 0);
+    while at + 2 <= stream.len() {
+        let length = stream[at] as usize * 256 + stream[at + 1] as usize;
+        files.push(stream[at + 2..at + 2 + length].to_vec());
+        at += 2 + length;
+    }
+    files
+}
+
+fn main() {
+    const LARGEST: u32 = 33_554_432;
+    println!("{:<44} {:>10} {:>12} {:>12} {:>9} {:>9} {:>6}", "", "examined", "checker, ms", "reference", "ns each", "ns each", "ratio");
+    compare("the document's example, 207 bytes", &[example("K1.cert")], 2000);
+    compare("the call-frame example, 366 bytes", &[example("frames-accepted.cert")], 2000);
+    compare("the corpus of trials", &corpus(), 1);
+
+    // Dense: symbol 1 takes every class to one of four, and symbol 3 any two of those four to one of them, so no left side is ever empty.
+    let arities = [0, 1, 1, 2, 2, 3, 3, 0];
+    let mut numbers = Numbers(12345);
+    let mut rows: Vec<Vec<u8>> = Vec::new();
+    for i in 0..32u8 {
+        rows.push(vec![1, i, (i.wrapping_mul(7) + 3) % 4]);
+        rows.push(vec![2, i, (i.wrapping_mul(5) + 1) % 4]);
+    }
+    for i in 0..4 {
+        for j in 0..4 {
+            rows.push(vec![3, i, j, numbers.below(4)]);
+        }
+    }
+    for i in 0..32u8 {
+        rows.push(vec![4, i, numbers.below(4), (i.wrapping_mul(9) + 5) % 32]);
+    }
+    for i in 0..16 {
+        rows.push(vec![3, 4 + i, numbers.below(32), numbers.below(32)]);
+    }
+    let short = "1,3,1,x0,3,1,x1,3,1,x2,1,x3";
+    let long = "1,2,1,3,1,2,1,x0,3,1,2,2,x1,3,2,1,1,x2,1,2,1,2,1,x3";
+    compare("dense, 12 tokens a side, one rule", &[certificate(&arities, &rows, short, 1, LARGEST)], 1);
+    compare("dense, 24 tokens a side, one rule", &[certificate(&arities, &rows, long, 1, LARGEST)], 1);
+    compare("dense, 12 tokens a side, largest total", &[certificate(&arities, &rows, short, 32, LARGEST)], 1);
+    compare("dense, 24 tokens a side, largest total", &[certificate(&arities, &rows, long, 32, LARGEST)], 1);
+    compare("the same, stopped inside a block", &[certificate(&arities, &rows, long, 32, LARGEST - 1)], 1);
+
+    // The heaviest: all 128 rows are one binary symbol's, on both sides of every rule.
+    let mut heavy: Vec<Vec<u8>> = Vec::new();
+    for i in 0..32 {
+        for j in 0..4 {
+            heavy.push(vec![3, i, (i + j) % 32, (i * 3 + j) % 32]);
+        }
+    }
+    compare("128 rows of one binary symbol, one rule", &[certificate(&arities, &heavy, "3,3,x0,x1,3,x2,x3", 1, LARGEST)], 1);
+
+    // Sparse: each symbol has four transitions, so most prefixes are dead.
+    let mut sparse: Vec<Vec<u8>> = Vec::new();
+    for f in 0..8u8 {
+        for _ in 0..4 {
+            let mut row = vec![f];
+            for _ in 0..arities[f as usize] + 1 {
+                row.push(numbers.below(32));
+            }
+            sparse.push(row);
+        }
+    }
+    compare("sparse, 12 tokens a side, largest total", &[certificate(&arities, &sparse, short, 32, LARGEST)], 1);
+
+    // A quarter of the classes is alive at each depth.
+    let mut quarter: Vec<Vec<u8>> = Vec::new();
+    for i in 0..8 {
+        quarter.push(vec![1, i, 0]);
+        quarter.push(vec![2, i, 0]);
+    }
+    for i in 0..32 {
+        quarter.push(vec![3, 0, i, 0]);
+    }
+    compare("a quarter alive at each depth, largest total", &[certificate(&arities, &quarter, short, 32, LARGEST)], 1);
+}

@@ -1,0 +1,134 @@
+-- The three demands, of whatever the public operation may give back: `Answers` is its contract.
+use mathlib.Core.Path.{_≡_, refl, sym, ap, _∙_}
+use mathlib.Core.Logic.{_⊎_, inl, inr}
+use mathlib.Core.List.{List, [], _∷_, _++_, List·Memᴰ}
+use mathlib.Core.Option.{Option}
+use Prim.Native.Nat.{ℕ, _≤_, _<_}
+use Prim.Native.String.{String}
+use native.Mathlib.Omega.{arith}
+use borrow.Author.Tests.{ltb-true, ltb-false}
+use lib.Dec.{ltb}
+use lib.ListN.{length, take, drop, getD}
+use Rattle.theory.specs.Safe.{Safe}
+use Rattle.theory.specs.Merging.{classes, merged}
+use Rattle.theory.specs.Critical.{Acritical, Suitable}
+use Rattle.paper.specs.Bytes.{bytes}
+use Rattle.paper.specs.Limits.{leastBuffer}
+use Rattle.paper.specs.Certificate.{Certificate}
+use Rattle.paper.specs.Format.{File, malformed as refused, holds, readFile}
+use Rattle.paper.specs.Verdict.{Verdict, malformed, unsuitable, critical, accepted, stopped, verdictOn, verdictOf}
+use Rattle.paper.specs.Meaning.{total, Means, Given}
+use Rattle.paper.specs.Answer.{decimal, lineWith, eight, answer, answerOf}
+use Rattle.paper.specs.Contract.{Returned, refusal, returned}
+use Rattle.paper.specs.Known.{Row, table, lines}
+use Rattle.paper.proofs.Smallest.{decided}
+use Rattle.paper.proofs.Known.{known}
+use Rattle.paper.proofs.Demands.{given-exactly, accepted-exactly, malformed-exactly, accepted-is-safe}
+use Rattle.paper.proofs.Contract.{short-untouched, answer-stands, rest-stays, number-and-length}
+use Rattle.paper.proofs.Distinct.{Small}
+use Rattle.paper.proofs.Told.{answer-tells}
+use Rattle.checker.specs.declared.Answered.{Answered}
+use Rattle.checker.specs.Gave.{gave, Answers, Begins}
+
+-- Two results that the contract allows are the same.
+pub one-answer : (file buffer : List ℕ) (r s : Answered) (left other : List ℕ) → Answers file buffer r left → Answers file buffer s other → (r ≡ s) × (left ≡ other)
+one-answer file buffer r s left other p q =
+    let e : gave r left ≡ gave s other = p ∙ sym q in
+    (ap (λ (x : Returned). record { number = x .number; length = x .written }) e, ap (λ (x : Returned). x .buffer) e)
+
+-- A verdict's answer begins with `verdict=accepted` only where it is accepted: the first letter tells.
+accepted-begins : (v : Verdict) → Begins "verdict=accepted" (answer v) → (n : ℕ) × (v ≡ accepted n)
+unfolding answer eight lineWith bytes
+accepted-begins (malformed number line) b = let e : _≡_ {A = ℕ} 109 97 = ap (λ (l : List ℕ). getD l 8 0) (b .split) in absurd (omega arith)
+accepted-begins (unsuitable class bad) b = let e : _≡_ {A = ℕ} 117 97 = ap (λ (l : List ℕ). getD l 8 0) (b .split) in absurd (omega arith)
+accepted-begins (critical rule xs class n) b = let e : _≡_ {A = ℕ} 99 97 = ap (λ (l : List ℕ). getD l 8 0) (b .split) in absurd (omega arith)
+accepted-begins (accepted n) b = (n, refl)
+accepted-begins (stopped n) b = let e : _≡_ {A = ℕ} 115 97 = ap (λ (l : List ℕ). getD l 8 0) (b .split) in absurd (omega arith)
+
+-- The answer to accepted begins so.
+begins-accepted : (n : ℕ) → Begins "verdict=accepted" (answer (accepted n))
+unfolding answer eight lineWith bytes
+begins-accepted n = record { rest = _; split = refl }
+
+nothing-begins : Begins "verdict=accepted" [] → ⊥
+unfolding bytes
+nothing-begins b = let e : _≡_ {A = ℕ} 0 118 = ap (λ (l : List ℕ). getD l 0 0) (b .split) in omega arith
+
+-- An accepted file holds tables.
+accepted-holds : (file : List ℕ) (n : ℕ) → verdictOf file ≡ accepted n → (c : Certificate) × (readFile file ≡ holds c)
+unfolding verdictOf verdictOn
+accepted-holds file n e = go (readFile file) refl
+  where
+    go : (f : File) → readFile file ≡ f → (c : Certificate) × (readFile file ≡ holds c)
+    go (refused number line) r = let d : malformed number line ≡ accepted n = rw r at e in let z : _≡_ {A = ℕ} 0 1 = cc in absurd (omega arith)
+    go (holds c) r = (c, r)
+
+-- A verdict that is given to tables is no refusal.
+not-refused : (c : Certificate) (v : Verdict) → Given c v → refusal v ≡ 0
+unfolding Given Means refusal
+not-refused c (malformed number line) g = absurd g
+not-refused c (unsuitable class bad) g = refl
+not-refused c (critical rule xs class n) g = refl
+not-refused c (accepted n) g = refl
+not-refused c (stopped n) g = refl
+
+module _ (file buffer : List ℕ) (r : Answered) (left : List ℕ) (given : Answers file buffer r left) where
+  -- Demand 1. A buffer under 128 bytes: 1, length 0, and nothing is written.
+  pub untouched : length buffer < leastBuffer → (r .number ≡ 1) × (r .length ≡ 0) × (left ≡ buffer)
+  untouched h =
+      let e = given ∙ short-untouched file buffer h in
+      (ap (λ (x : Returned). x .number) e, ap (λ (x : Returned). x .written) e, ap (λ (x : Returned). x .buffer) e)
+
+  -- Otherwise the number of the refusal, the length of the answer, the answer's own bytes, and the later bytes as they were.
+  pub written : leastBuffer ≤ length buffer → (r .number ≡ refusal (verdictOf file)) × (r .length ≡ length (answerOf file)) × (take (r .length) left ≡ answerOf file) × (drop (r .length) left ≡ drop (r .length) buffer)
+  written h =
+      let (number, count) = number-and-length file buffer h in
+      let n : r .length ≡ length (answerOf file) = ap (λ (x : Returned). x .written) given ∙ count in
+      let b : left ≡ returned file buffer .buffer = ap (λ (x : Returned). x .buffer) given in
+      (ap (λ (x : Returned). x .number) given ∙ number, n, rw (b, n) (answer-stands file buffer h), rw (b, n) (rest-stays file buffer h))
+
+  -- A refused file: its number and its line.
+  pub refused-written : leastBuffer ≤ length buffer → (number : ℕ) (line : Option ℕ) → readFile file ≡ refused number line → (take (r .length) left ≡ answer (malformed number line)) × (r .number ≡ number)
+  unfolding answerOf refusal
+  refused-written h n line e =
+      let (number, count, bs, later) = written h in
+      let is = malformed-exactly file n line .1 e in
+      (bs ∙ ap answer is, number ∙ ap refusal is)
+
+  -- Demand 2: the row of the table that holds of the file's tables is the answer written, with the number 0 ..
+  pub given-written : leastBuffer ≤ length buffer → (c : Certificate) → readFile file ≡ holds c → (v : Verdict) → Given c v → (take (r .length) left ≡ answer v) × (r .number ≡ 0)
+  unfolding answerOf
+  given-written h c e v g =
+      let (number, count, bs, later) = written h in
+      let is = given-exactly file c e v .1 g in
+      (bs ∙ ap answer is, number ∙ ap refusal is ∙ not-refused c v g)
+
+  -- .. and the answer written is a verdict's only where that is the file's verdict.
+  pub verdict-told : leastBuffer ≤ length buffer → (v : Verdict) → Small v → take (r .length) left ≡ answer v → verdictOf file ≡ v
+  verdict-told h v s e = let (number, count, bs, later) = written h in answer-tells file v s (sym bs ∙ e)
+
+  -- K1 to K12: on a row's file the row's answer is written.
+  pub known-written : (row : Row) → List·Memᴰ row table → file ≡ lines (row .file) → leastBuffer ≤ length buffer → take (r .length) left ≡ lines (row .answer)
+  known-written row m e h = let (number, count, bs, later) = written h in bs ∙ ap answerOf e ∙ known row m
+
+  -- Demand 3: if the bytes written begin `verdict=accepted`, the file holds tables, and their system is safe.
+  pub accepted-safe : Begins "verdict=accepted" (take (r .length) left) → (c : Certificate) × (readFile file ≡ holds c) × Safe (c .A) (c .rules) (c .B)
+  unfolding answerOf
+  accepted-safe b = elim (decided (ltb (length buffer) leastBuffer)) [
+    | inl e ↦
+        let (one, none, same) = untouched (ltb-true (length buffer) leastBuffer e) in
+        absurd (nothing-begins (rw none at b))
+    | inr e ↦
+        let (number, count, bs, later) = written (ltb-false (length buffer) leastBuffer e) in
+        let (n, is) = accepted-begins (verdictOf file) (rw bs at b) in
+        let (c, h) = accepted-holds file n is in
+        (c, h, accepted-is-safe file n is c h)
+  ]
+
+  -- Conversely an acritical, suitable merging whose total is within the budget is accepted.
+  pub conclusive-accepted : leastBuffer ≤ length buffer → (c : Certificate) → readFile file ≡ holds c → Suitable (merged (c .merge) (c .A)) (c .B) → Acritical (merged (c .merge) (c .A)) (c .rules) → total (classes (c .merge)) (c .rules) ≤ c .budget → Begins "verdict=accepted" (take (r .length) left)
+  unfolding answerOf
+  conclusive-accepted h c e s a l =
+      let (number, count, bs, later) = written h in
+      let is = accepted-exactly file c e (total (classes (c .merge)) (c .rules)) .1 (s, a, l, refl) in
+      rw (bs, is) (begins-accepted (total (classes (c .merge)) (c .rules)))

@@ -1,0 +1,190 @@
+//! The commands of the reference.
+
+use reference::{answer, generate, stream};
+use std::collections::BTreeMap;
+use std::io::{self, Read, Write};
+use std::process::ExitCode;
+
+const HELP: &str = "\
+reference: a second checker of merging certificates, and certificates to try
+
+  reference answer < FILE             prints the answer to one certificate
+  reference answers < STREAM          prints the answers to a packed stream
+  reference corpus OUT_DIR            writes the corpus to OUT_DIR/stdin, its answers
+                                      to OUT_DIR/stdout, and prints what is in it
+  reference pack SEED COUNT [FIRST]   writes a packed stream of random certificates,
+                                      those from number FIRST (0 if left out) on
+  reference show SEED INDEX           writes one certificate of `pack SEED`
+  reference compare STREAM ANSWERS [FIRST]
+                                      compares answers made elsewhere with its own;
+                                      numbers the certificates from FIRST on
+  reference help                      prints this text
+
+A packed stream has each certificate after its length in two bytes, the higher byte
+first. Answers stand one behind the other, eight lines each.
+Exit status: 0 when all went well (compare: no difference), 1 for differences,
+2 for wrong use or a file that cannot be read or written.
+";
+
+/// How many differences are written out.
+const SHOWN: usize = 5;
+
+fn main() -> ExitCode {
+    let arguments: Vec<String> = std::env::args().skip(1).collect();
+    let words: Vec<&str> = arguments.iter().map(String::as_str).collect();
+    let result = match words[..] {
+        ["help" | "--help" | "-h"] => write_out(HELP.as_bytes()),
+        ["answer"] => answer_one(),
+        ["answers"] => answer_stream(),
+        ["corpus", folder] => write_corpus(folder),
+        ["pack", seed, count] => pack(seed, count, "0"),
+        ["pack", seed, count, first] => pack(seed, count, first),
+        ["show", seed, index] => show(seed, index),
+        ["compare", certificates, answers] => return compare(certificates, answers, "0"),
+        ["compare", certificates, answers, first] => return compare(certificates, answers, first),
+        [] => Err("a command is wanted".to_string()),
+        [command, ..] => Err(format!("`{command}` is no command, or its arguments do not fit")),
+    };
+    finish(result.map(|()| ExitCode::SUCCESS))
+}
+
+fn finish(result: Result<ExitCode, String>) -> ExitCode {
+    result.unwrap_or_else(|message| {
+        eprintln!("reference: {message}\n`reference help` lists the commands");
+        ExitCode::from(2)
+    })
+}
+
+fn number(text: &str, what: &str) -> Result<u64, String> {
+    text.parse().map_err(|_| format!("{what} must be a whole number, not `{text}`"))
+}
+
+fn read_file(path: &str) -> Result<Vec<u8>, String> {
+    std::fs::read(path).map_err(|error| format!("cannot read {path}: {error}"))
+}
+
+fn read_in(limit: u64) -> Result<Vec<u8>, String> {
+    let mut bytes = Vec::new();
+    let read = io::stdin().lock().take(limit).read_to_end(&mut bytes);
+    read.map_err(|error| format!("cannot read standard input: {error}"))?;
+    Ok(bytes)
+}
+
+fn write_out(bytes: &[u8]) -> Result<(), String> {
+    let mut out = io::stdout().lock();
+    out.write_all(bytes)
+        .and_then(|()| out.flush())
+        .map_err(|error| format!("cannot write to standard output: {error}"))
+}
+
+fn answer_one() -> Result<(), String> {
+    // One byte more than allowed shows that a file is too long.
+    let file = read_in(reference::reading::LARGEST_FILE as u64 + 1)?;
+    write_out(&answer(&file).1)
+}
+
+fn answer_stream() -> Result<(), String> {
+    let input = read_in(u64::MAX)?;
+    let mut answers = Vec::new();
+    for file in stream::split(&input)? {
+        answers.extend_from_slice(&answer(file).1);
+    }
+    write_out(&answers)
+}
+
+fn pack(seed: &str, count: &str, first: &str) -> Result<(), String> {
+    let seed = number(seed, "SEED")?;
+    let count = number(count, "COUNT")?;
+    let first = number(first, "FIRST")?;
+    let mut packed = Vec::new();
+    for index in 0..count {
+        stream::push(&mut packed, &generate::packed(seed, first.wrapping_add(index)));
+        if packed.len() > 1 << 20 {
+            write_out(&packed)?;
+            packed.clear();
+        }
+    }
+    write_out(&packed)
+}
+
+fn show(seed: &str, index: &str) -> Result<(), String> {
+    write_out(&generate::packed(number(seed, "SEED")?, number(index, "INDEX")?))
+}
+
+/// How many certificates had each verdict and refusal.
+#[derive(Default)]
+struct Counts(BTreeMap<String, u64>);
+
+impl Counts {
+    fn add(&mut self, refusal: u8, answer: &[u8]) {
+        let name = if refusal > 0 {
+            format!("malformed {refusal:2}")
+        } else {
+            let line = answer.split(|&byte| byte == b'\n').next().unwrap_or_default();
+            String::from_utf8_lossy(line).trim_start_matches("verdict=").to_string()
+        };
+        *self.0.entry(name).or_default() += 1;
+    }
+
+    fn print(&self) {
+        for (name, count) in &self.0 {
+            println!("{name:<14}{count:>8}");
+        }
+    }
+}
+
+fn write_corpus(folder: &str) -> Result<(), String> {
+    let files = generate::corpus();
+    let (mut input, mut output) = (Vec::new(), Vec::new());
+    let mut counts = Counts::default();
+    for file in &files {
+        let (refusal, text) = answer(file);
+        counts.add(refusal, &text);
+        stream::push(&mut input, file);
+        output.extend_from_slice(&text);
+    }
+    let failed = |error: io::Error| format!("cannot write to {folder}: {error}");
+    std::fs::create_dir_all(folder).map_err(failed)?;
+    let folder_path = std::path::Path::new(folder);
+    std::fs::write(folder_path.join("stdin"), &input).map_err(failed)?;
+    std::fs::write(folder_path.join("stdout"), &output).map_err(failed)?;
+    counts.print();
+    println!("{} certificates, {} bytes, answers of {} bytes", files.len(), input.len(), output.len());
+    Ok(())
+}
+
+fn compare(certificates: &str, answers: &str, first: &str) -> ExitCode {
+    finish(compare_files(certificates, answers, first))
+}
+
+fn compare_files(certificates: &str, answers: &str, first: &str) -> Result<ExitCode, String> {
+    let first = number(first, "FIRST")?;
+    let input = read_file(certificates)?;
+    let theirs = read_file(answers)?;
+    let mut rest = &theirs[..];
+    let files = stream::split(&input)?;
+    let mut counts = Counts::default();
+    let mut differences = 0;
+    for (index, file) in files.iter().enumerate() {
+        let (refusal, own) = answer(file);
+        counts.add(refusal, &own);
+        let other = stream::take_answer(&mut rest);
+        if own != other {
+            differences += 1;
+            if differences <= SHOWN {
+                let number = first.wrapping_add(index as u64);
+                println!("difference at certificate {number}, {} bytes:", file.len());
+                println!("{}", file.escape_ascii().to_string().replace("\\n", "\\n\n"));
+                println!("the reference answers:\n{}", String::from_utf8_lossy(&own));
+                println!("the other answers:\n{}", String::from_utf8_lossy(other));
+            }
+        }
+    }
+    if !rest.is_empty() {
+        differences += 1;
+        println!("the other answers have {} bytes behind the last answer", rest.len());
+    }
+    counts.print();
+    println!("{} certificates, {differences} differences", files.len());
+    Ok(if differences == 0 { ExitCode::SUCCESS } else { ExitCode::from(1) })
+}
