@@ -33,6 +33,8 @@ use Rattle.blocks.specs.Packed.{maskFrom, packedRows, tableOf, packedRul
 use Rattle.blocks.specs.Draft.{keyOf, fromRows, fromRules, fromInitial, automaton}
 use Rattle.blocks.specs.Handed.{Went, Handed, fieldRefusal}
 use Rattle.blocks.proofs.Chain.{field-read, field-refused, list-read, list-refused, then-next, then-stop}
+use Rattle.paper.proofs.Admitted.{some-numbers}
+use Rattle.paper.proofs.Spelling.{steps}
 
 module _ (file : List ℕ) (K : Kind) (kb : List ℕ) (same : kb ≡ keyOf K) (line : ℕ) (bs : List ℕ) where
   pub number-read : (f : Field) → saidField file f ≡ keyed kb (one K) bs → (v : ℕ) (c : Cursor) → f ≡ Read v c → fixed K one line bs ≡ gave v (line + 1) (drop (c .at) file)
@@ -51,18 +53,12 @@ module _ (file : List ℕ) (K : Kind) (kb : List ℕ) (same : kb ≡ keyOf K) (l
   unfolding fixed keyOf
   numbers-refused m judge it h k q g e = list-refused file (row K .key) kb same line bs m (judge K) it h k q g e
 
--- what a reader that went on did
-pub bind-parts : {X Y : Type 0} (r : Reading X) (next : X → Reader Y) (y : Y) (l : ℕ) (cs : List ℕ) → goOn r next ≡ gave y l cs → (x : X) × (k : ℕ) × (ds : List ℕ) × (r ≡ gave x k ds) × (next x k ds ≡ gave y l cs)
-unfolding goOn
-bind-parts (refused n k) next y l cs e = let z : _≡_ {A = ℕ} 0 1 = cc in absurd (omega arith)
-bind-parts (gave x k ds) next y l cs e = (x, k, ds, refl, e)
-
 pub times-length : {X : Type 0} (reader : Reader X) (n line : ℕ) (bs : List ℕ) (xs : List X) (l : ℕ) (cs : List ℕ) → times n reader line bs ≡ gave xs l cs → length xs ≡ n
 unfolding times give _>>=_
 times-length reader zero line bs xs l cs e = let p : [] ≡ xs = cc in rw (← p)
 times-length reader (suc n) line bs xs l cs e =
-    let (x, k, ds, p, q) = bind-parts (reader line bs) _ xs l cs e in
-    let (ys, j, es, u, v) = bind-parts (times n reader k ds) _ xs l cs q in
+    let (x, k, ds, p, q) = steps (reader line bs) _ e in
+    let (ys, j, es, u, v) = steps (times n reader k ds) _ q in
     let w : x ∷ ys ≡ xs = cc in
     rw (← w) (ap suc (times-length reader n k ds ys j es u))
 
@@ -127,15 +123,9 @@ pub initial-for : (b : ℕ) (items bytes : List ℕ) (n line : ℕ) (bs : List �
 initial-for b items bytes n line bs e = rw e
 
 -- there is at least one arity
-numbers-some : (value : List ℕ) → Says (λ ns. 1 ≤ length ns) (numbers value)
-unfolding numbers each
-numbers-some value =
-    let i = entries-sound value in
-    rw (i .are) (said _ _ (anything (number (i .first))) (λ x u. said _ _ (anything (each number (i .others))) (λ xs w. spoken _ _ (omega arith))))
-
 arities-more : (value : List ℕ) → Says (λ ns. 1 ≤ length ns) (arityList value)
 unfolding arityList list row numbersOf
-arities-more value = said _ _ (said _ _ (numbers-some value) (λ ns l. passed 5 _ _ (λ h. spoken _ _ l))) (λ ns l. passed 6 _ _ (λ h. spoken _ _ l))
+arities-more value = said _ _ (said _ _ (some-numbers value) (λ ns l. passed 5 _ _ (λ h. spoken _ _ l))) (λ ns l. passed 6 _ _ (λ h. spoken _ _ l))
 
 pub arities-some : (file kb bs : List ℕ) (m : ℕ) (it : Items) → Listing file m (keyed kb arityList bs) it → (n : ℕ) (a : Bool) (c : Cursor) → it .answer ≡ Got n a c → 1 ≤ n
 unfolding saidItems saidListed

@@ -26,7 +26,7 @@ use Rattle.blocks.specs.Packed.{tablesOf, mergingOf, tableOf}
 use Rattle.blocks.specs.Draft.{Draft, fromRows, fromTrans, fromFinal, automaton, fromRules, fromRuleCount, fromBad, fromInitial, fromArities, draft, mergeLine, merged, closing}
 use Rattle.certificate.specs.Read.{lineNumber, draftOf, refusedRead, stopRead, readOf}
 use Rattle.blocks.proofs.Chain.{judged-is, then-next, then-stop}
-use Rattle.blocks.proofs.Steps.{bind-parts}
+use Rattle.paper.proofs.Spelling.{steps}
 
 bind-cong : {X Y : Type 0} (m : Reader X) (f g : X → Reader Y) → ((x : X) → f x ≡ g x) → _≡_ {A = Reader Y} (m >>= f) (m >>= g)
 bind-cong m f g h = λ i. m >>= (λ x. h x i)
@@ -121,22 +121,22 @@ number-range K line bs v l cs e = go (judgedLine (row K .key) (one K) bs) refl e
 automaton-states : (K1 K2 K3 : Kind) (key : String) (ar : List ℕ) (line : ℕ) (bs : List ℕ) (A : Automaton) (l : ℕ) (cs : List ℕ) → automaton K1 K2 K3 key ar line bs ≡ gave A l cs → A .states ≤ row K1 .greatest
 unfolding automaton fromFinal fromTrans fromRows give _>>=_
 automaton-states K1 K2 K3 key ar line bs A l cs e =
-    let (n, k1, d1, p1, q1) = bind-parts (fixed K1 one line bs) _ A l cs e in
-    let (f, k2, d2, p2, q2) = bind-parts (fixed K2 (λ kind. finalList kind n) k1 d1) _ A l cs q1 in
-    let (c, k3, d3, p3, q3) = bind-parts (fixed K3 one k2 d2) _ A l cs q2 in
-    let (ts, k4, d4, p4, q4) = bind-parts (times c (lineOf key (transition ar n)) k3 d3) _ A l cs q3 in
+    let (n, k1, d1, p1, q1) = steps (fixed K1 one line bs) _ e in
+    let (f, k2, d2, p2, q2) = steps (fixed K2 (λ kind. finalList kind n) k1 d1) _ q1 in
+    let (c, k3, d3, p3, q3) = steps (fixed K3 one k2 d2) _ q2 in
+    let (ts, k4, d4, p4, q4) = steps (times c (lineOf key (transition ar n)) k3 d3) _ q3 in
     let same = gave-same _ A k4 l d4 cs q4 in
     rw (← same) (number-range K1 line bs n k1 d1 p1 .1)
 
 pub draft-states : (line : ℕ) (bs : List ℕ) (d : Draft) (l : ℕ) (cs : List ℕ) → draft line bs ≡ gave d l cs → d .A .states ≤ 32
 unfolding draft fromArities fromInitial fromBad fromRuleCount fromRules give _>>=_
 draft-states line bs d l cs e =
-    let (b, k1, d1, p1, q1) = bind-parts (fixed Budget one line bs) _ d l cs e in
-    let (ar, k2, d2, p2, q2) = bind-parts (fixed Arities (λ kind. arityList) k1 d1) _ d l cs q1 in
-    let (A, k3, d3, p3, q3) = bind-parts (automaton States Final Trans "t" ar k2 d2) _ d l cs q2 in
-    let (B, k4, d4, p4, q4) = bind-parts (automaton BadStates BadFinal BadTrans "u" ar k3 d3) _ d l cs q3 in
-    let (n, k5, d5, p5, q5) = bind-parts (fixed Rules one k4 d4) _ d l cs q4 in
-    let (rs, k6, d6, p6, q6) = bind-parts (times n (rule ar) k5 d5) _ d l cs q5 in
+    let (b, k1, d1, p1, q1) = steps (fixed Budget one line bs) _ e in
+    let (ar, k2, d2, p2, q2) = steps (fixed Arities (λ kind. arityList) k1 d1) _ q1 in
+    let (A, k3, d3, p3, q3) = steps (automaton States Final Trans "t" ar k2 d2) _ q2 in
+    let (B, k4, d4, p4, q4) = steps (automaton BadStates BadFinal BadTrans "u" ar k3 d3) _ q3 in
+    let (n, k5, d5, p5, q5) = steps (fixed Rules one k4 d4) _ q4 in
+    let (rs, k6, d6, p6, q6) = steps (times n (rule ar) k5 d5) _ q5 in
     let same = gave-same _ d k6 l d6 cs q6 in
     let few : A .states ≤ 32 = unfold row in (automaton-states States Final Trans "t" ar k2 d2 A k3 d3 p3) in
     rw (← same) few

@@ -1,6 +1,6 @@
 -- An automaton that is packed into a table is what the table holds.
 use mathlib.Core.Path.{_≡_, refl, sym, ap, _∙_}
-use mathlib.Core.Bool.{Bool, true, false, _||_, and-eq-true-iff}
+use mathlib.Core.Bool.{Bool, true, false, _||_, and-eq-true-iff, or-assoc, or-false}
 use mathlib.Core.Logic.{inl, inr}
 use mathlib.Core.List.{List, [], _∷_, _++_, List·Memᴰ, List·Memᴰ·head, List·Memᴰ·tail}
 use Prim.Native.Nat.{ℕ, zero, suc, _+_, _*_, _-_, _≤_, _<_, _^_}
@@ -23,6 +23,7 @@ use Rattle.tables.specs.Held.{moveAt, movesOf, members, automatonOf}
 use Rattle.blocks.specs.Packed.{rowOf, rowsOf, maskFrom, packedRows, tableOf}
 use Rattle.blocks.proofs.Arrays.{padded-get, append-low, listed, getD-mem, list-low}
 use Rattle.blocks.proofs.Blocks.{row-length, rows-length, rows-append}
+use Rattle.theory.proofs.Bools.{eqb-sym}
 
 -- a row of the table
 row-at : (ts : List Transition) (i : ℕ) (d : Transition) → i < length ts → rowsOf ts ≡ rowsOf (take i ts) ++ (rowOf (getD ts i d) ++ rowsOf (drop (suc i) ts))
@@ -92,26 +93,12 @@ unfolding packedRows
 table-small ar A l g i = omega (arith, padded-low 63 640 (rowsOf (A .transitions)) (rows-low ar (A .states) (A .transitions) l (omega (arith, g .most-states)) (g .transitions)) i)
 
 -- Masks: the members of a mask are the states that it was made of.
-or-assoc : (a b c : Bool) → ((a || b) || c) ≡ (a || (b || c))
-or-assoc true b c = refl
-or-assoc false b c = refl
-
-eqb-swap : (m n : ℕ) → eqb m n ≡ eqb n m
-eqb-swap m n = elim (decided (eqb m n)) [
-  | inl p ↦ p ∙ sym (eq-eqb n m (sym (eqb-true m n p)))
-  | inr p ↦ p ∙ sym (ne-eqb n m (λ e. eqb-false m n p (sym e)))
-]
-
 mem-mask : (qs : List ℕ) (m x : ℕ) → mem (maskFrom m qs) x ≡ (mem m x || some qs (eqb x))
 unfolding maskFrom some
 mem-mask [] m x = sym (or-false (mem m x))
-  where
-    or-false : (b : Bool) → (b || false) ≡ b
-    or-false true = refl
-    or-false false = refl
 mem-mask (q ∷ qs) m x =
     mem-mask qs (bitOr m (2 ^ q)) x
-    ∙ ap (λ (b : Bool). b || some qs (eqb x)) (ap (λ (f : ℕ → Bool). f x) (mem-with m q) ∙ ap (λ (b : Bool). mem m x || b) (eqb-swap q x))
+    ∙ ap (λ (b : Bool). b || some qs (eqb x)) (ap (λ (f : ℕ → Bool). f x) (mem-with m q) ∙ ap (λ (b : Bool). mem m x || b) (eqb-sym q x))
     ∙ or-assoc (mem m x) (eqb x q) (some qs (eqb x))
 
 not-above : (qs : List ℕ) (n m : ℕ) → ascending m qs ≡ true → n < m → some qs (eqb n) ≡ false

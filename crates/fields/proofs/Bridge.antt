@@ -24,7 +24,8 @@ use Rattle.fields.specs.Listed.{beyond}
 use Rattle.fields.specs.Lines.{Line, good, bad, numbersIn, lineIn, entryLine, checked}
 use Rattle.fields.specs.Said.{keyed, saidLine}
 use Rattle.fields.proofs.Digits.{readOn, read-number}
-use Rattle.fields.proofs.Entries.{saidValue, found, headed, next-rest, ended-has, ended-not, entries-said}
+use Rattle.fields.proofs.Entries.{saidValue, found, headed, ended-has, ended-not, entries-said}
+use Rattle.fields.proofs.Rest.{next-rest}
 
 -- The key.
 unfoldable pub saidOpened : List ℕ → Opened → Judged (List ℕ)

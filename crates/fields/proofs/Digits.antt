@@ -1,6 +1,6 @@
 -- One entry, byte by byte, is what paper's `number` and `token` say of it.
 use mathlib.Core.Path.{_≡_, refl, sym, ap, _∙_}
-use mathlib.Core.Bool.{Bool, true, false, _&&_, not}
+use mathlib.Core.Bool.{Bool, true, false, _&&_, not, and-false}
 use mathlib.Core.Logic.{inl, inr}
 use mathlib.Core.List.{List, [], _∷_}
 use Prim.Native.Nat.{ℕ, suc, _+_, _*_, _-_, _≤_}
@@ -32,17 +32,13 @@ same-digit : (b : ℕ) → digit b ≡ isDigit b
 unfolding digit isDigit
 same-digit b = refl
 
-and-no : (a : Bool) → (a && false) ≡ false
-and-no true = refl
-and-no false = refl
-
 full-eight : (n v : ℕ) → leb 8 n ≡ true → full n v ≡ true
 unfolding full
 full-eight n v f = rw f
 
 full-not : (n v : ℕ) → leb 8 (suc n) ≡ false → (v ≡ 0 → ⊥) → full (suc n) v ≡ false
 unfolding full
-full-not n v f z = rw (f, ne-eqb v 0 z, and-no (not (eqb (suc n) 0)))
+full-not n v f z = rw (f, ne-eqb v 0 z, and-false (not (eqb (suc n) 0)))
 
 more-step : (y n v b : ℕ) (e : List ℕ) → isDigit b ≡ true → full n v ≡ false → readOn y n v (b ∷ e) ≡ readOn y (n + 1) (v * 10 + (b - 48)) e
 unfolding readOn
@@ -55,7 +51,7 @@ more-digits y n v [] h z = rw (le-leb (suc n + 0) 8 (omega arith), ne-eqb (suc n
 more-digits y n v (b ∷ e) h z = elim (decided (isDigit b)) [
   | inr d ↦ rw (same-digit b, d, ne-eqb (suc n) 0 (λ k. omega arith), readOn)
   | inl d ↦ elim (decided (leb 8 (suc n))) [
-    | inl f ↦ rw (d, full-eight (suc n) v f, readOn) (rw (same-digit b, d, lt-leb (suc n + suc (length e)) 8 (omega (arith, leb-true 8 (suc n) f)), and-no (all digit e)))
+    | inl f ↦ rw (d, full-eight (suc n) v f, readOn) (rw (same-digit b, d, lt-leb (suc n + suc (length e)) 8 (omega (arith, leb-true 8 (suc n) f)), and-false (all digit e)))
     | inr f ↦
         let ih = more-digits y (suc n) (v * 10 + (b - 48)) e (omega (arith, leb-false 8 (suc n) f)) (λ k. z (omega arith)) in
         let p : suc n + 1 ≡ suc (suc n) = omega arith in

@@ -1,6 +1,6 @@
 -- The byte machine's entries are paper's: each entry of the value up to the LF, read as a number or a token.
 use mathlib.Core.Path.{_≡_, refl, sym, ap, _∙_}
-use mathlib.Core.Bool.{Bool, true, false, _&&_}
+use mathlib.Core.Bool.{Bool, true, false, _&&_, and-false}
 use mathlib.Core.Logic.{inl, inr}
 use mathlib.Core.List.{List, [], _∷_}
 use Prim.Native.Nat.{ℕ, zero, suc, _+_, _*_, _-_}
@@ -19,6 +19,7 @@ use Rattle.fields.specs.Number.{isDigit, full}
 use Rattle.fields.specs.Value.{Value, numbers, notNumbers, withFirst, code, back, entriesFrom}
 use Rattle.fields.specs.Line.{hasEnd}
 use Rattle.fields.proofs.Digits.{readOn}
+use Rattle.fields.proofs.Rest.{next-rest}
 
 -- A value that the machine found, in paper's words.
 unfoldable pub saidValue : List ℕ → Value → Judged (Said (List ℕ))
@@ -55,13 +56,6 @@ longer f k g b e es h = ap (λ j. j >>= (λ w. each g es >>= (λ ws. says (w ∷
 back-back : (y : ℕ) → back (back y) ≡ back y
 back-back zero = refl
 back-back (suc y) = refl
-
-and-no : (a : Bool) → (a && false) ≡ false
-and-no true = refl
-and-no false = refl
-
-pub next-rest : (file : List ℕ) (at b : ℕ) (s : List ℕ) → drop at file ≡ b ∷ s → drop (at + 1) file ≡ s
-next-rest file at b s e = sym (drop-drop 1 at file) ∙ ap (drop 1) e
 
 -- A value that ends in LF has an end.
 pub ended-has : (s : List ℕ) → hasEnd s ≡ true → (l : Line) × (ended s ≡ says l)
@@ -144,7 +138,7 @@ no-digit : (b c : ℕ) → b ≡ c → isDigit c ≡ false → isDigit b ≡ fal
 no-digit b c e h = ap isDigit e ∙ h
 
 no-x : (y b c : ℕ) → b ≡ c → eqb c 120 ≡ false → (eqb y 1 && eqb b 120) ≡ false
-no-x y b c e h = ap (λ k. eqb y 1 && eqb k 120) e ∙ (rw h (and-no (eqb y 1)))
+no-x y b c e h = ap (λ k. eqb y 1 && eqb k 120) e ∙ (rw h (and-false (eqb y 1)))
 
 both-x : (y : ℕ) (t : Bool) → (eqb y 1 && t) ≡ true → back y ≡ 1
 both-x zero t h = let z : _≡_ {A = ℕ} 0 1 = cc in absurd (omega arith)

@@ -1,7 +1,7 @@
 -- A list's value by turns: what `finish` is after each number; and that `finish` from the start is `listOf`.
 -- Assumes nothing.
 use mathlib.Core.Path.{_≡_, refl, sym, ap, _∙_}
-use mathlib.Core.Bool.{Bool, true, false, _&&_, _||_}
+use mathlib.Core.Bool.{Bool, true, false, _&&_, _||_, or-assoc, or-false, and-true}
 use mathlib.Core.List.{List, [], _∷_}
 use Prim.Native.Nat.{ℕ, suc, _+_, _≤_, _<_}
 use native.Mathlib.Numerals.{add-one}
@@ -46,21 +46,9 @@ module _ (y : ℕ) (y≤1 : y ≤ 1) (file : List ℕ) (s : Seen) (f m at : ℕ)
     turn-other h l k = ap (finish s f m) (entries-read y y≤1 file at v c e ∙ after-other y file (c .at) v h l k)
 
 -- The state by its fields.
-or-assoc : (a b c : Bool) → ((a || b) || c) ≡ (a || (b || c))
-or-assoc true b c = refl
-or-assoc false b c = refl
-
 and-assoc : (a b c : Bool) → ((a && b) && c) ≡ (a && (b && c))
 and-assoc true b c = refl
 and-assoc false b c = refl
-
-or-false : (a : Bool) → (a || false) ≡ a
-or-false true = refl
-or-false false = refl
-
-and-true : (a : Bool) → (a && true) ≡ a
-and-true true = refl
-and-true false = refl
 
 beyond-same : (m : ℕ) (ns : List ℕ) → beyond m m ns ≡ anyOver m ns
 unfolding beyond anyOver

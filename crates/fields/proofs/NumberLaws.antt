@@ -12,19 +12,20 @@ use lib.Dec.{leb}
 use lib.ListN.{length, drop, getD}
 use Rattle.fields.specs.declared.cursor.Field.the-variants.{Refused}
 use Rattle.fields.specs.Number.{isDigit, full, ended, numberFrom}
-use Rattle.fields.proofs.Rest.{rest-end, rest-cons, both-true, none-true}
+use Rattle.fields.proofs.Rest.{rest-end, rest-cons}
+use Rattle.theory.proofs.Bools.{and-both, neither}
 
 pub digit-least : (b : ℕ) → isDigit b ≡ true → 48 ≤ b
 unfolding isDigit
-digit-least b h = leb-true _ _ (both-true (leb 48 b) _ h .0)
+digit-least b h = leb-true _ _ (and-both (leb 48 b) _ h .0)
 
 pub digit-most : (b : ℕ) → isDigit b ≡ true → b ≤ 57
 unfolding isDigit
-digit-most b h = leb-true _ _ (both-true (leb 48 b) _ h .1)
+digit-most b h = leb-true _ _ (and-both (leb 48 b) _ h .1)
 
 pub not-full : (n v : ℕ) → full n v ≡ false → n < 8
 unfolding full
-not-full n v h = leb-false _ _ (none-true (leb 8 n) _ h .0)
+not-full n v h = leb-false _ _ (neither (leb 8 n) _ h .0)
 
 -- a number of n digits is below 10 ^ n, and of at most seven it has room for one more
 pub room : (n v : ℕ) → n < 8 → v < 10 ^ n → v < 10000000

@@ -16,7 +16,7 @@ use Rattle.fields.specs.Value.{Value, numbers, notNumbers, valueOf}
 use Rattle.fields.specs.Line.{openAt}
 use Rattle.fields.specs.Listed.{anyOver, beyond, refusedItems, ascending}
 use Rattle.fields.specs.Lines.{Line, good, bad, numbersIn, lineIn, listLine, checked, fewCheck, itemsOf}
-use Rattle.fields.proofs.Rest.{none-true}
+use Rattle.theory.proofs.Bools.{neither}
 
 pub tell-checked : (k : List ℕ → ℕ) (l : Line) (ns : List ℕ) (at : ℕ) → checked k l ≡ good ns at → (l ≡ good ns at) × (k ns ≡ 0)
 unfolding checked
@@ -34,14 +34,14 @@ tell-checked k (good ms m) ns at e = go (eqb (k ms) 0) refl
 none-over : (m : ℕ) (ns : List ℕ) → anyOver m ns ≡ false → (i : ℕ) → getD ns i 0 ≤ m
 unfolding anyOver
 none-over m [] e i = omega arith
-none-over m (v ∷ ns) e zero = ltb-false m v (none-true (ltb m v) (anyOver m ns) e .0)
-none-over m (v ∷ ns) e (suc i) = none-over m ns (none-true (ltb m v) (anyOver m ns) e .1) i
+none-over m (v ∷ ns) e zero = ltb-false m v (neither (ltb m v) (anyOver m ns) e .0)
+none-over m (v ∷ ns) e (suc i) = none-over m ns (neither (ltb m v) (anyOver m ns) e .1) i
 
 none-beyond : (f m t : ℕ) (ns : List ℕ) → f ≤ t → m ≤ t → beyond f m ns ≡ false → (i : ℕ) → getD ns i 0 ≤ t
 unfolding beyond
 none-beyond f m t [] p q e i = omega arith
-none-beyond f m t (v ∷ ns) p q e zero = omega (arith, ltb-false f v (none-true (ltb f v) (anyOver m ns) e .0))
-none-beyond f m t (v ∷ ns) p q e (suc i) = omega (arith, none-over m ns (none-true (ltb f v) (anyOver m ns) e .1) i)
+none-beyond f m t (v ∷ ns) p q e zero = omega (arith, ltb-false f v (neither (ltb f v) (anyOver m ns) e .0))
+none-beyond f m t (v ∷ ns) p q e (suc i) = omega (arith, none-over m ns (neither (ltb f v) (anyOver m ns) e .1) i)
 
 within-numbers : (f m t : ℕ) → f ≤ t → m ≤ t → (b : Bool) (x : Value) (ns : List ℕ) (at : ℕ) → numbersIn f m b x ≡ good ns at → (i : ℕ) → getD ns i 0 ≤ t
 unfolding numbersIn beyond anyOver

@@ -21,8 +21,8 @@ use Rattle.fields.specs.Line.{openAt}
 use Rattle.fields.specs.Listed.{refusedItems, beyond, ascending, laid}
 use Rattle.fields.specs.Lines.{Line, good, bad, numbersIn, lineIn, listLine, checked, itemsOf}
 use Rattle.fields.specs.Trans.{argIn, transOf, transCheck, arrowOf, refusalIn}
-use Rattle.fields.proofs.Rest.{none-true}
 use Rattle.fields.proofs.LinesLaws.{GotLine}
+use Rattle.theory.proofs.Bools.{neither}
 
 pub laid-get : (ns zs : List ℕ) (i : ℕ) → i < length ns → i < length zs → getD (laid ns zs) i 0 ≡ getD ns i 0
 unfolding laid
@@ -69,7 +69,7 @@ numbers-first f m (numbers (v ∷ vs) k) ns at e = go (beyond f m (v ∷ vs)) re
     go false p =
         let w : good (v ∷ vs) k ≡ good ns at = rw (p, numbersIn) at e in
         let q : v ∷ vs ≡ ns = cc in
-        rw (← q) (omega arith, ltb-false _ _ (none-true (ltb f v) _ p .0))
+        rw (← q) (omega arith, ltb-false _ _ (neither (ltb f v) _ p .0))
 
 pub line-first : (f m : ℕ) (file : List ℕ) (o : Opened) (ns : List ℕ) (at : ℕ) → lineIn 0 f m false file o ≡ good ns at → (0 < length ns) × (getD ns 0 0 ≤ f)
 unfolding lineIn

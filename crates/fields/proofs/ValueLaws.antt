@@ -14,10 +14,7 @@ use Rattle.fields.specs.declared.cursor.Field.{Field}
 use Rattle.fields.specs.declared.cursor.Field.the-variants.{Read, Refused}
 use Rattle.fields.specs.Number.{isDigit, full, ended, numberFrom}
 use Rattle.fields.specs.Value.{Value, numbers, notNumbers, withFirst, code, back, coded, entryAt, entriesFrom, valueOf, valueAt}
-use Rattle.fields.proofs.Rest.{rest-end, rest-cons}
-
-drop-next : (file : List ℕ) (at b : ℕ) (s : List ℕ) → drop at file ≡ b ∷ s → drop (at + 1) file ≡ s
-drop-next file at b s e = sym (drop-drop 1 at file) ∙ ap (drop 1) e
+use Rattle.fields.proofs.Rest.{rest-end, rest-cons, next-rest}
 
 -- an entry w has been read, of a list of kind y, and s stands at `at`, after it
 abbrev pub afterEntry : ℕ → ℕ → ℕ → List ℕ → Value
@@ -42,7 +39,7 @@ entries-number file [] y n v at k e = go (eqb n 0) refl
     go true p = rw p
     go false p = rw (p, e)
 entries-number file (b ∷ s) y n v at k e =
-    go (entries-number file s y (n + 1) (v * 10 + (b - 48)) (at + 1) (rw (ne-eqb (n + 1) 0 (λ z. omega arith))) (drop-next file at b s e)) (isDigit b) refl (full n v) refl (eqb n 0) refl
+    go (entries-number file s y (n + 1) (v * 10 + (b - 48)) (at + 1) (rw (ne-eqb (n + 1) 0 (λ z. omega arith))) (next-rest file at b s e)) (isDigit b) refl (full n v) refl (eqb n 0) refl
   where
     go : entriesFrom y (n + 1) (v * 10 + (b - 48)) (at + 1) s ≡ after (back y) file (coded y (numberFrom (n + 1) (v * 10 + (b - 48)) (at + 1) s))
         → (d : Bool) → isDigit b ≡ d → (f : Bool) → full n v ≡ f → (z : Bool) → eqb n 0 ≡ z
@@ -71,10 +68,10 @@ entries-entry file (b ∷ s) (suc zero) at h e = go (eqb b 120) refl (isDigit b)
         let w : _≡_ {A = ℕ} 0 1 = cc in absurd (omega arith)
     go true p false q =
         unfold entriesFrom in
-        (rw (q, p, entriesFrom, entryAt) (entries-number file s 2 0 0 (at + 1) refl (drop-next file at b s e)))
+        (rw (q, p, entriesFrom, entryAt) (entries-number file s 2 0 0 (at + 1) refl (next-rest file at b s e)))
     go false p true q =
         unfold entriesFrom numberFrom full in
-        (rw (p, entryAt) (rw (q, entriesFrom, numberFrom) (entries-number file s 1 1 (0 * 10 + (b - 48)) (at + 1) refl (drop-next file at b s e))))
+        (rw (p, entryAt) (rw (q, entriesFrom, numberFrom) (entries-number file s 1 1 (0 * 10 + (b - 48)) (at + 1) refl (next-rest file at b s e))))
     go false p false q = unfold entriesFrom numberFrom ended coded in (rw (p, entryAt) (rw (q, p, entriesFrom, numberFrom)))
 entries-entry file s (suc (suc y)) at h e = absurd (omega arith)
 

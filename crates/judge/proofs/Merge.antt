@@ -1,6 +1,6 @@
 -- The turns of the two loops that merge a table.
 use mathlib.Core.Path.{_≡_, refl, sym, ap, ap₂, _∙_, fun-ext}
-use mathlib.Core.Bool.{Bool, true, false, _||_, or-false, cond}
+use mathlib.Core.Bool.{Bool, true, false, _||_, or-false, cond, or-assoc}
 use mathlib.Core.List.{List, [], _∷_, _++_, map, map-append}
 use Prim.Native.Nat.{ℕ, zero, suc, _+_, _%_, _≤_, _<_}
 use native.Mathlib.Omega.{arith}
@@ -13,9 +13,9 @@ use lib.Seq.{getD-set-same, getD-set-other}
 use Rattle.theory.specs.Lists.{some}
 use Rattle.sets.specs.Sets.{Set, mem, none, plus}
 use Rattle.sets.proofs.Laws.{mem-zero}
-use Rattle.sharing.proofs.Sharing.{zero-at}
 use Rattle.tables.specs.Held.{members}
 use Rattle.judge.specs.Merged.{mergedByte, Merged, finalClass}
+use Rattle.theory.proofs.Bools.{eqb-sym, zero-at}
 
 module _ (rows merge : List ℕ) where
   pub merged-start : Merged rows merge 0 (replicate 640 0)
@@ -59,13 +59,6 @@ some-append : {Y : Type 0} (xs ys : List Y) (test : Y → Bool) → some (xs ++ 
 unfolding some
 some-append [] ys test = refl
 some-append (x ∷ xs) ys test = ap (λ b. test x || b) (some-append xs ys test) ∙ sym (or-assoc (test x) (some xs test) (some ys test))
-  where
-    or-assoc : (a b c : Bool) → ((a || b) || c) ≡ (a || (b || c))
-    or-assoc true b c = refl
-    or-assoc false b c = refl
-
-eqb-sym : (a b : ℕ) → eqb a b ≡ eqb b a
-eqb-sym a b = elim (ℕ-discrete a b) [ yes e ↦ rw e | no n ↦ ne-eqb a b n ∙ sym (ne-eqb b a (λ e. n (sym e))) ]
 
 module _ (finals : ℕ) (merge : List ℕ) where
   pub final-start : mem 0 ≡ finalClass finals merge 0

@@ -25,6 +25,7 @@ use Rattle.lanes.specs.Prefixes.{rest, chosen, codeOf, codesOf}
 use Rattle.lanes.specs.Blocks.{Spelled, Alive, Block}
 use Rattle.lanes.specs.Automaton.{automatonOf}
 use Rattle.lanes.proofs.Numbers.{lane-low}
+use Rattle.theory.proofs.Bools.{and-off}
 
 -- In lane j the codes of a block give each variable the class that the lane's substitution gives it.
 pub codes-exact : (v x0 x1 x2 j : ℕ) → v ≤ 4 → x0 < 64 → x1 < 64 → x2 < 64 → (v ≡ 0 → j ≡ 0) → (a : ℕ) → setsOf (codesOf (v - 1) 0 x0 x1 x2) j a ≡ plus none (entry (chosen v x0 x1 x2 j) a)
@@ -126,9 +127,6 @@ module _ (arities words heads tokens : List ℕ) (at k : ℕ) (rule : Rule) (s :
     exact place t after w m spans j hj =
         let low = lane-low k v j hk hv hj in
         spans t after w j (low .0) ∙ spanned-exact M (entry (chosen v x0 x1 x2 j)) (setsOf codes j) (codes-exact v x0 x1 x2 j hv h0 h1 h2 (low .1)) t
-
-    and-off : (a b : Bool) → a ≡ false → (a && b) ≡ false
-    and-off a b e = rw e
 
     module _ (ls rs : List ℕ) (left : Spans at codes ls) where
       -- A left side with no class in any lane.

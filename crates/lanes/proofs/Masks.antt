@@ -7,14 +7,11 @@ use native.Mathlib.Omega.{arith}
 use lib.Bits.{bitOr}
 use Rattle.sets.specs.Sets.{mem}
 use Rattle.sets.proofs.Laws.{mem-or}
+use Rattle.theory.proofs.Bools.{neither}
 
 -- A lane that is not in the word is in none of the first n rows.
 abbrev pub Missed : (ℕ → ℕ → Bool) → ℕ → ℕ → Type 0
 Missed F n all = (j : ℕ) → mem all j ≡ false → (p : ℕ) → p < n → F p j ≡ false
-
-neither : (a b : Bool) → (a || b) ≡ false → (a ≡ false) × (b ≡ false)
-neither true b e = absurd (true≢false e)
-neither false b e = (refl, e)
 
 pub missed-more : (F : ℕ → ℕ → Bool) (n all w : ℕ) → ((j : ℕ) → mem w j ≡ F n j) → Missed F n all → Missed F (n + 1) (bitOr all w)
 missed-more F n all w is old j e p h =

@@ -30,11 +30,9 @@ use Rattle.paper.proofs.Exact.{listed-iff}
 use Rattle.paper.proofs.Judged.{silent, parts, Says, said, passed, spoken, anything}
 use Rattle.paper.proofs.Lines.{Entries, entries-sound}
 use Rattle.paper.proofs.Preorder.{preorder-exact}
+use borrow.Author.Tests.{ltb-true}
 
 -- Facts behind tests.
-less : (m n : ℕ) → ltb m n ≡ true → m < n
-less m n e = ltb→lt m n (rw e tt)
-
 pub all-mem : {Y : Type 0} (test : Y → Bool) (ys : List Y) → all test ys ≡ true → (y : Y) → List·Memᴰ y ys → test y ≡ true
 unfolding all
 all-mem test (x ∷ ys) e y (List·Memᴰ·head h) = rw h (and-eq-true-iff (test x) (all test ys) .0 e .0)
@@ -45,7 +43,7 @@ unfolding all lastOf
 all-last test q [] e = and-eq-true-iff (test q) true .0 e .0
 all-last test q (r ∷ qs) e = all-last test r qs (and-eq-true-iff (test q) (all test (r ∷ qs)) .0 e .1)
 
-same-lists : (xs ys : List ℕ) → same xs ys ≡ true → xs ≡ ys
+pub same-lists : (xs ys : List ℕ) → same xs ys ≡ true → xs ≡ ys
 unfolding same
 same-lists [] [] e = refl
 same-lists [] (y ∷ ys) e = absurd (false≢true e)
@@ -81,7 +79,7 @@ unfolding each
 each-length f [] = spoken _ [] refl
 each-length f (y ∷ ys) = said _ _ (anything (f y)) (λ z u. said _ _ (each-length f ys) (λ zs l. spoken _ (z ∷ zs) (ap suc l)))
 
-some-numbers : (value : List ℕ) → Says (λ ns. 1 ≤ length ns) (numbers value)
+pub some-numbers : (value : List ℕ) → Says (λ ns. 1 ≤ length ns) (numbers value)
 unfolding numbers
 some-numbers value ns e = let i = entries-sound value in omega (arith, each-length number (entries value) ns e, ap length (i .are))
 
@@ -105,7 +103,7 @@ record GoodFinal (n : ℕ) (qs : List ℕ) : Type 0 where
 -- A final list has states only, and ascends.
 finals-in : (kind : Kind) (n : ℕ) (value : List ℕ) → Says (GoodFinal n) (finalList kind n value)
 unfolding finalList
-finals-in kind n value = said _ _ (anything _) (λ qs u. passed 5 _ _ (λ below. passed 7 _ _ (λ ascends. spoken _ qs (record { below = λ q m. less q n (all-mem (λ q. ltb q n) qs below q m); ascends = ascends }))))
+finals-in kind n value = said _ _ (anything _) (λ qs u. passed 5 _ _ (λ below. passed 7 _ _ (λ ascends. spoken _ qs (record { below = λ q m. ltb-true q n (all-mem (λ q. ltb q n) qs below q m); ascends = ascends }))))
 
 length-dropLast : (q : ℕ) (qs : List ℕ) → length (dropLast (q ∷ qs)) ≡ length qs
 length-dropLast q [] = refl
@@ -126,10 +124,10 @@ transition-in arities n value = said _ _ (anything _) go
     good f (q ∷ qs) h e =
         let (l, b) = and-eq-true-iff (ltb f (length arities)) (all (λ q. ltb q n) (q ∷ qs)) .0 h in
         record {
-          symbol = less f (length arities) l;
+          symbol = ltb-true f (length arities) l;
           count = omega (arith, length-dropLast q qs, equal-iff (length (q ∷ qs)) (getD arities f 0 + 1) .0 e);
-          arguments = λ p m. less p n (all-mem (λ q. ltb q n) (q ∷ qs) b p (mem-dropLast q qs p m));
-          target = less (lastOf (q ∷ qs)) n (all-last (λ q. ltb q n) q qs b);
+          arguments = λ p m. ltb-true p n (all-mem (λ q. ltb q n) (q ∷ qs) b p (mem-dropLast q qs p m));
+          target = ltb-true (lastOf (q ∷ qs)) n (all-last (λ q. ltb q n) q qs b);
         }
 
     go : (ns : List ℕ) → Unit {0} → Says (GoodTransition arities n) (fromNumbers arities n ns)

@@ -8,7 +8,7 @@ use native.Mathlib.Omega.{arith}
 use native.Mathlib.Nat.{pow-zero, pow-succ', pow-le-pow-right, zero-add, mul-assoc, mul-le-mul-right}
 use lib.Dec.{T, eqb, leb, ltb, ltb→lt, le→leb, nltb→le}
 use lib.ListN.{length}
-use borrow.Author.Tests.{leb-true, lt-ltb, le-ltb, eqb-false, not-true}
+use borrow.Author.Tests.{leb-true, lt-ltb, le-ltb, eqb-false, not-true, ltb-true, ltb-false}
 use Rattle.theory.proofs.Tests.{equal-iff}
 use Rattle.paper.specs.Bytes.{digit0}
 use Rattle.paper.specs.Limits.{mostDigits}
@@ -22,12 +22,6 @@ use Rattle.paper.proofs.Bounds.{digits-length}
 T-true : (b : Bool) → T b → b ≡ true
 T-true true t = refl
 T-true false t = absurd t
-
-under : (m n : ℕ) → ltb m n ≡ true → m < n
-under m n e = ltb→lt m n (rw e tt)
-
-not-under : (m n : ℕ) → ltb m n ≡ false → n ≤ m
-not-under m n e = nltb→le m n (rw e tt)
 
 digit-true : (d : ℕ) → d < 10 → digit (digit0 + d) ≡ true
 unfolding digit
@@ -60,14 +54,14 @@ unfolding digits
 written zero n bs l h = record { lead = digit0 + n % 10; rest = bs; is = refl; nonzero = apart (n % 10) (omega arith) }
 written (suc k) n bs l h = elim (decided (ltb n 10)) [
   | inl e ↦ rw (e, digits) (record { lead = digit0 + n; rest = bs; is = refl; nonzero = apart n l })
-  | inr e ↦ rw (e, digits) (written k (n / 10) ((digit0 + n % 10) ∷ bs) (omega (arith, not-under n 10 e)) (tenth k n h))
+  | inr e ↦ rw (e, digits) (written k (n / 10) ((digit0 + n % 10) ∷ bs) (omega (arith, ltb-false n 10 e)) (tenth k n h))
 ]
 
 pub all-digits : (k n : ℕ) (bs : List ℕ) → all digit bs ≡ true → all digit (digits k n bs) ≡ true
 unfolding digits all
 all-digits zero n bs h = and-eq-true-iff _ _ .1 (digit-true (n % 10) (omega arith), h)
 all-digits (suc k) n bs h = elim (decided (ltb n 10)) [
-  | inl e ↦ rw (e, digits) (and-eq-true-iff _ _ .1 (digit-true n (omega (arith, under n 10 e)), h))
+  | inl e ↦ rw (e, digits) (and-eq-true-iff _ _ .1 (digit-true n (omega (arith, ltb-true n 10 e)), h))
   | inr e ↦ rw (e, digits) (all-digits k (n / 10) ((digit0 + n % 10) ∷ bs) (and-eq-true-iff _ _ .1 (digit-true (n % 10) (omega arith), h)))
 ]
 

@@ -142,7 +142,7 @@ abbrev Takes : {Y : Type 0} → (Y → List ℕ → Type 0) → Reader Y → Typ
 Takes {Y} Q r = (line : ℕ) (rest : List ℕ) (y : Y) (line′ : ℕ) (rest′ : List ℕ) → r line rest ≡ gave y line′ rest′ → (t : List ℕ) × Q y t × (rest ≡ t ++ rest′)
 
 -- A reading that went on was a reading before.
-steps : {X Y : Type 0} (r : Reading X) (k : X → Reader Y) {y : Y} {line : ℕ} {rest : List ℕ} → goOn r k ≡ gave y line rest → (x : X) × (n : ℕ) × (bs : List ℕ) × (r ≡ gave x n bs) × (k x n bs ≡ gave y line rest)
+pub steps : {X Y : Type 0} (r : Reading X) (k : X → Reader Y) {y : Y} {line : ℕ} {rest : List ℕ} → goOn r k ≡ gave y line rest → (x : X) × (n : ℕ) × (bs : List ℕ) × (r ≡ gave x n bs) × (k x n bs ≡ gave y line rest)
 unfolding goOn
 steps (refused number line) k e = let z : _≡_ {A = ℕ} 0 1 = cc in absurd (omega arith)
 steps (gave x n bs) k e = (x, n, bs, refl, e)

@@ -25,6 +25,7 @@ use Rattle.lanes.specs.Prefixes.{rest, choices, chosen}
 use Rattle.lanes.specs.Blocks.{Alive}
 use Rattle.lanes.proofs.Numbers.{rest-in, rest-out, rest-all, choices-in, choices-out, choices-low, all-choices, pow-1}
 use Rattle.search.proofs.Order.{place-listed, listed-place, substitution-at, noCase, ruleIn, case-at, total-next, total-inside}
+use Rattle.theory.proofs.Bools.{and-off}
 
 module _ (M : Automaton) (R : List Rule) where
   abbrev pub all : List Case
@@ -164,9 +165,6 @@ module _ (M : Automaton) (R : List Rule) where
     -- A verdict that meets the outcome is the one of the definition.
     pub judged : (budget : ℕ) (v : Verdict) → Outcome M all budget 0 v → v ≡ examine M all budget 0
     judged budget v o = sym (decides M all budget 0 (λ c m. record { some-class = class-some M R c; no-class = class-none M R range shaped c m }) v o)
-
-    and-off : (a b : Bool) → a ≡ false → (a && b) ≡ false
-    and-off a b e = rw e
 
     entries-low : (τ : List ℕ) → 1 ≤ M .states → M .states ≤ 64 → ((c : ℕ) → List·Memᴰ c τ → c < M .states) → (a : ℕ) → getD τ a 0 < 64
     entries-low τ some most low a = elim (decLt a (length τ)) [

@@ -1,2 +1,1 @@
-pub mod Bools
 pub mod Sharing

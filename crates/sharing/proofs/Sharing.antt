@@ -19,7 +19,7 @@ use Rattle.theory.proofs.Joined.{Joined, joined-complete, joined-shares, catche
 use Rattle.tables.specs.Held.{moveAt}
 use Rattle.tables.proofs.Moves.{move-row, row-move}
 use Rattle.sharing.specs.Share.{flat, Small, arg, rel, joins, ClosedAt, Sound, Words, sum, Grown, SweptTo, PassedTo, Exact, Tables}
-use Rattle.sharing.proofs.Bools.{or-on, or-off, or-cases, and-both, and-true₂, not-both}
+use Rattle.theory.proofs.Bools.{or-on, or-off, or-cases, and-both, and-true₂, not-both}
 
 and-last : (a b c : Bool) → (a && (b && (c && true))) ≡ (a && (b && c))
 and-last true true true = refl
@@ -38,11 +38,6 @@ pub sum-most : (xs : List ℕ) (m : ℕ) → ((i : ℕ) → getD xs i 0 < m) →
 unfolding sum
 sum-most [] m h = omega arith
 sum-most (x ∷ xs) m h = omega (arith, h 0, sum-most xs m (λ i. h (suc i)), native.Mathlib.Nat.suc-mul (length xs) m)
-
-pub zero-at : (n i : ℕ) → _≡_ {A = ℕ} (getD (replicate n 0) i 0) 0
-zero-at zero i = refl
-zero-at (suc n) zero = refl
-zero-at (suc n) (suc i) = zero-at n i
 
 -- the measure of the outer loop: what the pairs can still grow by, and one while more may be added
 pub falls : (r r′ : List ℕ) (a : Bool) → sum r′ ≤ 64 * 2 ^ 64 → (a ≡ false → r′ ≡ r) → (a ≡ true → sum r < sum r′) → 64 * 2 ^ 64 - sum r′ + cond a 1 0 < 64 * 2 ^ 64 - sum r + 1

@@ -27,6 +27,7 @@ use Rattle.fields.proofs.Digits.{readOn, read-token}
 use Rattle.fields.specs.Value.{codeOf}
 use Rattle.fields.proofs.Bridge.{values, valuesOf, inRange, ranged, checking}
 use Rattle.fields.proofs.Judges.{bind-same, bind-bind, none-beyond, check-passes, check-fails}
+use Rattle.paper.proofs.Admitted.{same-lists}
 
 pub codes-length : (ts : List Token) → length (codes ts) ≡ length ts
 unfolding codes
@@ -313,15 +314,6 @@ lined-vars ar (argument x ∷ ts) k e =
           rw (s, lined) (rw p)
     ])
 
-same-refl : (xs ys : List ℕ) → same xs ys ≡ true → xs ≡ ys
-unfolding same
-same-refl [] [] e = refl
-same-refl [] (y ∷ ys) e = absurd (false≢true e)
-same-refl (x ∷ xs) [] e = absurd (false≢true e)
-same-refl (x ∷ xs) (y ∷ ys) e =
-    let (h, hs) = and-eq-true-iff (eqb x y) (same xs ys) .0 e in
-    rw (eqb-true x y h, same-refl xs ys hs)
-
 module _ (ar : List ℕ) (t : Term ℕ) (k : all (known ar) (preorder t) ≡ true) where
   pub in-order : (v : ℕ) → lined 0 (codes (preorder t)) ≡ Count v → (same (variables t) (countFrom 0 (length (variables t))) ≡ true) × (variables t ≡ countFrom 0 v)
   unfolding ordered
@@ -330,7 +322,7 @@ module _ (ar : List ℕ) (t : Term ℕ) (k : all (known ar) (preorder t) ≡ tru
         let f = rw p at (sym (lined-vars ar (preorder t) 0 k) ∙ e) in
         let n : 0 + length (vars (preorder t)) ≡ v = cc in
         let m : length (vars (preorder t)) ≡ v = omega arith in
-        rw (term-vars t) (p, same-refl _ _ p ∙ ap (countFrom 0) m)
+        rw (term-vars t) (p, same-lists _ _ p ∙ ap (countFrom 0) m)
     | inr p ↦ let f = rw p at (sym (lined-vars ar (preorder t) 0 k) ∙ e) in let z : _≡_ {A = ℕ} 0 1 = cc in absurd (omega arith)
   ]
 

@@ -1,3 +1,4 @@
+pub mod Bools
 pub mod Count
 pub mod Grow
 pub mod Merged
@@ -10,4 +11,3 @@ pub mod Fixpoint
 pub mod Joined
 pub mod Sharing
 pub mod Search
-pub mod Preorder

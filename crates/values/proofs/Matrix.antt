@@ -1,6 +1,6 @@
 -- Matrices: a word put into one, and the matrix of a variable.
 use mathlib.Core.Path.{_≡_, refl, sym, ap, ap₂, _∙_, fun-ext}
-use mathlib.Core.Bool.{Bool, true, false, cond, _&&_}
+use mathlib.Core.Bool.{Bool, true, false, cond, _&&_, and-true}
 use mathlib.Core.List.{List}
 use Prim.Native.Nat.{ℕ, zero, suc, _+_, _<_}
 use native.Mathlib.Decide.{decLt}
@@ -12,6 +12,7 @@ use borrow.Author.Tests.{lt-ltb, le-ltb, eq-eqb, ne-eqb, eqb-true, eqb-false}
 use Rattle.sets.specs.Sets.{Set, mem, none, plus, every, under}
 use Rattle.sets.proofs.Laws.{mem-zero, mem-below}
 use Rattle.values.specs.Lanes.{lane, Blank, codeSet}
+use Rattle.theory.proofs.Bools.{zero-at}
 
 -- A word put into a matrix.
 pub lane-put : (m : List ℕ) (t v j q : ℕ) → t < length m → lane j (set m t v) q ≡ cond (eqb t q) (mem v j) (lane j m q)
@@ -24,14 +25,9 @@ lane-put m t v j q h = go (eqb t q) refl
 pub blank-lane : (m : List ℕ) → Blank m → (j q : ℕ) → lane j m q ≡ false
 blank-lane m z j q = ap (λ n. mem n j) (z .zero q) ∙ ap (λ (s : Set). s j) mem-zero
 
-zero-from : (n q : ℕ) → _≡_ {A = ℕ} (getD (replicate n 0) q 0) 0
-zero-from zero q = refl
-zero-from (suc n) zero = refl
-zero-from (suc n) (suc q) = zero-from n q
-
 -- A new matrix.
 pub blank-new : Blank (replicate 64 0)
-blank-new = record { long = refl; zero = zero-from 64 }
+blank-new = record { long = refl; zero = zero-at 64 }
 
 -- The word of all ones has every lane.
 pub all-lanes : (j : ℕ) → j < 64 → mem 18446744073709551615 j ≡ true
@@ -105,8 +101,4 @@ own-is m n j last hj is = fun-ext at ∙ sym (own-code j)
 
 -- Each row filled whole.
 pub any-is : (m : List ℕ) (n x j : ℕ) → n ≡ 64 → 64 < x → j < 64 → FilledTo (λ p q. true) n m → lane j m ≡ codeSet x j
-any-is m n x j last hx hj is = fun-ext (λ p. is p j hj ∙ plain (ltb p n) ∙ ap (ltb p) last) ∙ sym (any-code x j hx)
-  where
-    plain : (b : Bool) → (b && true) ≡ b
-    plain true = refl
-    plain false = refl
+any-is m n x j last hx hj is = fun-ext (λ p. is p j hj ∙ and-true (ltb p n) ∙ ap (ltb p) last) ∙ sym (any-code x j hx)

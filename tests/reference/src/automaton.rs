@@ -42,15 +42,24 @@ impl Table {
             for (argument, &state) in arguments.iter_mut().zip(given) {
                 *argument = class(state);
             }
-            rows[symbol].push(Row { arguments, target: class(*target) });
+            rows[symbol].push(Row {
+                arguments,
+                target: class(*target),
+            });
         }
         for group in &mut rows {
             group.sort_unstable();
             group.dedup();
         }
         Table {
-            size: class_of.iter().max().map_or(0, |&largest| largest as usize + 1),
-            finals: side.finals.iter().fold(0, |set, &state| set | 1 << class(state)),
+            size: class_of
+                .iter()
+                .max()
+                .map_or(0, |&largest| largest as usize + 1),
+            finals: side
+                .finals
+                .iter()
+                .fold(0, |set, &state| set | 1 << class(state)),
             arities: arities.iter().map(|&arity| arity as usize).collect(),
             rows,
         }
@@ -74,7 +83,10 @@ impl Table {
             *set = self.value_at(term, place, substitution);
         }
         let fits = |row: &&Row| (0..arity).all(|n| sets[n] >> row.arguments[n] & 1 == 1);
-        self.rows[symbol].iter().filter(fits).fold(0, |set, row| set | 1 << row.target)
+        self.rows[symbol]
+            .iter()
+            .filter(fits)
+            .fold(0, |set, row| set | 1 << row.target)
     }
 }
 

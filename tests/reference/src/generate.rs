@@ -24,7 +24,9 @@ pub fn corpus() -> Vec<Vec<u8>> {
     for (model, most) in [(&example, 9), (&wider, 7)] {
         let mut singles = faults::singles(model);
         random.shuffle(&mut singles);
-        let kept = at_most(most, singles, |single| (single.kind, single.expected.number));
+        let kept = at_most(most, singles, |single| {
+            (single.kind, single.expected.number)
+        });
         files.extend(kept.into_iter().map(|single| single.file));
         let mut doubles = faults::doubles(model);
         random.shuffle(&mut doubles);
@@ -43,8 +45,11 @@ pub fn corpus() -> Vec<Vec<u8>> {
     damaged.truncate(220);
     files.extend(damaged);
 
-    for number in 0..810 {
+    for number in 0..790 {
         files.push(valid::valid(&mut random, Wish::ALL[number % 4]).write());
+    }
+    for _ in 0..25 {
+        files.push(valid::late(&mut random).write());
     }
     for wished in [6, 7, 8, 9, 9, 10, 10, 10, 11] {
         for number in 0..25 {
@@ -73,7 +78,10 @@ fn at_most<T, M: Ord>(most: usize, list: Vec<T>, mark: impl Fn(&T) -> M) -> Vec<
 
 fn without_repeats(files: Vec<Vec<u8>>) -> Vec<Vec<u8>> {
     let mut met = BTreeSet::new();
-    files.into_iter().filter(|file| met.insert(file.clone())).collect()
+    files
+        .into_iter()
+        .filter(|file| met.insert(file.clone()))
+        .collect()
 }
 
 /// Certificate number `index` of the seed: sound and damaged ones mixed.

@@ -33,8 +33,16 @@ pub fn judge(certificate: &Certificate, search: Search) -> Verdict {
 
 /// The sum of k^v over the rules.
 pub fn total(certificate: &Certificate) -> u64 {
-    let classes = certificate.merge.iter().max().map_or(0, |&largest| largest as usize + 1);
-    certificate.rules.iter().map(|rule| substitutions(classes, rule.variables)).sum()
+    let classes = certificate
+        .merge
+        .iter()
+        .max()
+        .map_or(0, |&largest| largest as usize + 1);
+    certificate
+        .rules
+        .iter()
+        .map(|rule| substitutions(classes, rule.variables))
+        .sum()
 }
 
 impl Verdict {

@@ -43,7 +43,9 @@ fn main() -> ExitCode {
         ["compare", certificates, answers] => return compare(certificates, answers, "0"),
         ["compare", certificates, answers, first] => return compare(certificates, answers, first),
         [] => Err("a command is wanted".to_string()),
-        [command, ..] => Err(format!("`{command}` is no command, or its arguments do not fit")),
+        [command, ..] => Err(format!(
+            "`{command}` is no command, or its arguments do not fit"
+        )),
     };
     finish(result.map(|()| ExitCode::SUCCESS))
 }
@@ -56,7 +58,8 @@ fn finish(result: Result<ExitCode, String>) -> ExitCode {
 }
 
 fn number(text: &str, what: &str) -> Result<u64, String> {
-    text.parse().map_err(|_| format!("{what} must be a whole number, not `{text}`"))
+    text.parse()
+        .map_err(|_| format!("{what} must be a whole number, not `{text}`"))
 }
 
 fn read_file(path: &str) -> Result<Vec<u8>, String> {
@@ -98,7 +101,10 @@ fn pack(seed: &str, count: &str, first: &str) -> Result<(), String> {
     let first = number(first, "FIRST")?;
     let mut packed = Vec::new();
     for index in 0..count {
-        stream::push(&mut packed, &generate::packed(seed, first.wrapping_add(index)));
+        stream::push(
+            &mut packed,
+            &generate::packed(seed, first.wrapping_add(index)),
+        );
         if packed.len() > 1 << 20 {
             write_out(&packed)?;
             packed.clear();
@@ -108,7 +114,10 @@ fn pack(seed: &str, count: &str, first: &str) -> Result<(), String> {
 }
 
 fn show(seed: &str, index: &str) -> Result<(), String> {
-    write_out(&generate::packed(number(seed, "SEED")?, number(index, "INDEX")?))
+    write_out(&generate::packed(
+        number(seed, "SEED")?,
+        number(index, "INDEX")?,
+    ))
 }
 
 /// How many certificates had each verdict and refusal.
@@ -120,16 +129,22 @@ impl Counts {
         let name = if refusal > 0 {
             format!("malformed {refusal:2}")
         } else {
-            let line = answer.split(|&byte| byte == b'\n').next().unwrap_or_default();
-            String::from_utf8_lossy(line).trim_start_matches("verdict=").to_string()
+            let line = answer
+                .split(|&byte| byte == b'\n')
+                .next()
+                .unwrap_or_default();
+            String::from_utf8_lossy(line)
+                .trim_start_matches("verdict=")
+                .to_string()
         };
         *self.0.entry(name).or_default() += 1;
     }
 
-    fn print(&self) {
-        for (name, count) in &self.0 {
-            println!("{name:<14}{count:>8}");
-        }
+    fn text(&self) -> String {
+        self.0
+            .iter()
+            .map(|(name, count)| format!("{name:<14}{count:>8}\n"))
+            .collect()
     }
 }
 
@@ -148,9 +163,22 @@ fn write_corpus(folder: &str) -> Result<(), String> {
     let folder_path = std::path::Path::new(folder);
     std::fs::write(folder_path.join("stdin"), &input).map_err(failed)?;
     std::fs::write(folder_path.join("stdout"), &output).map_err(failed)?;
-    counts.print();
-    println!("{} certificates, {} bytes, answers of {} bytes", files.len(), input.len(), output.len());
-    Ok(())
+    let sizes = format!("{} bytes, answers of {} bytes", input.len(), output.len());
+    write_out(format!("{}{} certificates, {sizes}\n", counts.text(), files.len()).as_bytes())
+}
+
+/// A certificate written out, one line behind the other, with both answers.
+fn difference(number: u64, file: &[u8], own: &[u8], other: &[u8]) -> String {
+    let lines = file.split_inclusive(|&byte| byte == b'\n');
+    let text: String = lines
+        .map(|line| format!("  {}\n", line.escape_ascii()))
+        .collect();
+    format!(
+        "difference at certificate {number}, {} bytes:\n{text}the reference answers:\n{}the other answers:\n{}\n",
+        file.len(),
+        String::from_utf8_lossy(own),
+        String::from_utf8_lossy(other)
+    )
 }
 
 fn compare(certificates: &str, answers: &str, first: &str) -> ExitCode {
@@ -165,6 +193,7 @@ fn compare_files(certificates: &str, answers: &str, first: &str) -> Result<ExitC
     let files = stream::split(&input)?;
     let mut counts = Counts::default();
     let mut differences = 0;
+    let mut report = String::new();
     for (index, file) in files.iter().enumerate() {
         let (refusal, own) = answer(file);
         counts.add(refusal, &own);
@@ -173,18 +202,23 @@ fn compare_files(certificates: &str, answers: &str, first: &str) -> Result<ExitC
             differences += 1;
             if differences <= SHOWN {
                 let number = first.wrapping_add(index as u64);
-                println!("difference at certificate {number}, {} bytes:", file.len());
-                println!("{}", file.escape_ascii().to_string().replace("\\n", "\\n\n"));
-                println!("the reference answers:\n{}", String::from_utf8_lossy(&own));
-                println!("the other answers:\n{}", String::from_utf8_lossy(other));
+                report += &difference(number, file, &own, other);
             }
         }
     }
     if !rest.is_empty() {
         differences += 1;
-        println!("the other answers have {} bytes behind the last answer", rest.len());
+        report += &format!(
+            "{} bytes stand behind the last of the other answers\n",
+            rest.len()
+        );
     }
-    counts.print();
-    println!("{} certificates, {differences} differences", files.len());
-    Ok(if differences == 0 { ExitCode::SUCCESS } else { ExitCode::from(1) })
+    report += &counts.text();
+    report += &format!("{} certificates, {differences} differences\n", files.len());
+    write_out(report.as_bytes())?;
+    Ok(if differences == 0 {
+        ExitCode::SUCCESS
+    } else {
+        ExitCode::from(1)
+    })
 }

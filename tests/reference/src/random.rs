@@ -11,12 +11,12 @@ impl Random {
     /// A source of its own for each number of a seed.
     pub fn numbered(seed: u64, number: u64) -> Random {
         let mut outer = Random(seed);
-        let mixed = outer.next() ^ number.wrapping_mul(0xD134_2543_DE82_EF95);
+        let mixed = outer.draw() ^ number.wrapping_mul(0xD134_2543_DE82_EF95);
         let mut inner = Random(mixed);
-        Random(inner.next())
+        Random(inner.draw())
     }
 
-    pub fn next(&mut self) -> u64 {
+    pub fn draw(&mut self) -> u64 {
         self.0 = self.0.wrapping_add(0x9E37_79B9_7F4A_7C15);
         let mut mixed = self.0;
         mixed = (mixed ^ (mixed >> 30)).wrapping_mul(0xBF58_476D_1CE4_E5B9);
@@ -26,7 +26,7 @@ impl Random {
 
     /// 0 to `bound` - 1; 0 for the bound 0.
     pub fn below(&mut self, bound: usize) -> usize {
-        (self.next() % (bound.max(1) as u64)) as usize
+        (self.draw() % (bound.max(1) as u64)) as usize
     }
 
     /// `least` to `greatest`, both within reach.

@@ -52,14 +52,24 @@ pub struct Certificate {
 /// Reads a whole file.
 pub fn read(file: &[u8]) -> Result<Certificate, Refusal> {
     if file.len() > LARGEST_FILE {
-        return Err(Refusal { number: 2, line: None });
+        return Err(Refusal {
+            number: 2,
+            line: None,
+        });
     }
-    let mut lines = Lines { rest: file, line: 0 };
+    let mut lines = Lines {
+        rest: file,
+        line: 0,
+    };
 
     let budget = lines.one("budget", 0, LARGEST_BUDGET)?;
     let arities = read_arities(&mut lines)?;
     let a = read_side(&mut lines, ["states", "final", "trans", "t"], &arities)?;
-    let b = read_side(&mut lines, ["badstates", "badfinal", "badtrans", "u"], &arities)?;
+    let b = read_side(
+        &mut lines,
+        ["badstates", "badfinal", "badtrans", "u"],
+        &arities,
+    )?;
     let mut rules = Vec::new();
     for _ in 0..lines.one("rules", 0, MOST_RULES)? {
         rules.push(read_rule(&mut lines, &arities)?);
@@ -69,7 +79,14 @@ pub fn read(file: &[u8]) -> Result<Certificate, Refusal> {
         lines.line += 1;
         return Err(lines.refuse(3));
     }
-    Ok(Certificate { budget, arities, a, b, rules, merge })
+    Ok(Certificate {
+        budget,
+        arities,
+        a,
+        b,
+        rules,
+        merge,
+    })
 }
 
 /// What is left of the file, and the number of the line last asked for.
@@ -80,7 +97,10 @@ struct Lines<'a> {
 
 impl<'a> Lines<'a> {
     fn refuse(&self, number: u8) -> Refusal {
-        Refusal { number, line: Some(self.line) }
+        Refusal {
+            number,
+            line: Some(self.line),
+        }
     }
 
     /// Refuses the current line when the fault is there.
@@ -130,7 +150,10 @@ fn number(text: &[u8]) -> Option<u32> {
     if !long_enough || !digits || leading_zero {
         return None;
     }
-    Some(text.iter().fold(0, |sum, digit| sum * 10 + u32::from(digit - b'0')))
+    Some(
+        text.iter()
+            .fold(0, |sum, digit| sum * 10 + u32::from(digit - b'0')),
+    )
 }
 
 /// Numbers parted by one comma each; an empty text has none and is refused.
@@ -160,7 +183,11 @@ fn read_side(lines: &mut Lines, keys: [&str; 4], arities: &[u32]) -> Result<Side
     for _ in 0..lines.one(keys[2], 0, MOST_ROWS)? {
         rows.push(read_row(lines, keys[3], arities, states)?);
     }
-    Ok(Side { states, finals, rows })
+    Ok(Side {
+        states,
+        finals,
+        rows,
+    })
 }
 
 fn read_finals(lines: &mut Lines, key: &str, states: u32) -> Result<Vec<u32>, Refusal> {
@@ -192,13 +219,23 @@ fn read_rule(lines: &mut Lines, arities: &[u32]) -> Result<Rule, Refusal> {
     let left = read_term(lines, "l", arities)?;
     let met = variables(&left);
     let bare = matches!(left[0], Token::Variable(_));
-    let in_turn = met.iter().zip(0..).all(|(&variable, place)| variable == place);
+    let in_turn = met
+        .iter()
+        .zip(0..)
+        .all(|(&variable, place)| variable == place);
     lines.unless(bare || !in_turn, 9)?;
     let count = met.len() as u32;
 
     let right = read_term(lines, "r", arities)?;
-    lines.unless(variables(&right).iter().any(|&variable| variable >= count), 10)?;
-    Ok(Rule { left, right, variables: count })
+    lines.unless(
+        variables(&right).iter().any(|&variable| variable >= count),
+        10,
+    )?;
+    Ok(Rule {
+        left,
+        right,
+        variables: count,
+    })
 }
 
 fn read_term(lines: &mut Lines, key: &str, arities: &[u32]) -> Result<Vec<Token>, Refusal> {

@@ -35,7 +35,12 @@ pub fn plain(table: &Table, rules: &[Rule], budget: u64) -> Option<Critical> {
             let lacking = left & !right;
             if lacking != 0 {
                 let class = lacking.trailing_zeros() as u8;
-                return Some(Critical { rule: number, substitution, class, place });
+                return Some(Critical {
+                    rule: number,
+                    substitution,
+                    class,
+                    place,
+                });
             }
             if !advance(&mut substitution, table.size) {
                 break;
@@ -65,10 +70,20 @@ pub fn swift(table: &Table, rules: &[Rule], budget: u64) -> Option<Critical> {
         if before >= budget {
             return None;
         }
-        let mut seeker = Seeker { table, rule, budget, known: Vec::new() };
+        let mut seeker = Seeker {
+            table,
+            rule,
+            budget,
+            known: Vec::new(),
+        };
         if let Some((place, class)) = seeker.seek(before) {
             let substitution = seeker.known;
-            return Some(Critical { rule: number, substitution, class, place });
+            return Some(Critical {
+                rule: number,
+                substitution,
+                class,
+                place,
+            });
         }
         before += substitutions(table.size, rule.variables);
     }
@@ -97,7 +112,11 @@ impl Seeker<'_> {
         let left = self.words(&self.rule.left, &mut 0);
         let mut open = self.join(&left);
         if level + 1 >= variables {
-            return if open == 0 { None } else { self.judge_last(&left, before) };
+            return if open == 0 {
+                None
+            } else {
+                self.judge_last(&left, before)
+            };
         }
         let width = substitutions(self.table.size, (variables - level - 1) as u32);
         while open != 0 {

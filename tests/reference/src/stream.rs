@@ -5,7 +5,10 @@ pub const LONGEST: usize = 65_535;
 
 /// Appends one certificate; it must not be longer than 65,535 bytes.
 pub fn push(stream: &mut Vec<u8>, certificate: &[u8]) {
-    assert!(certificate.len() <= LONGEST, "a certificate too long for the stream");
+    assert!(
+        certificate.len() <= LONGEST,
+        "a certificate too long for the stream"
+    );
     stream.extend_from_slice(&(certificate.len() as u16).to_be_bytes());
     stream.extend_from_slice(certificate);
 }
@@ -17,7 +20,9 @@ pub fn split(stream: &[u8]) -> Result<Vec<&[u8]>, String> {
     while !rest.is_empty() {
         let number = certificates.len();
         if rest.len() < 2 {
-            return Err(format!("the stream ends within the length of certificate {number}"));
+            return Err(format!(
+                "the stream ends within the length of certificate {number}"
+            ));
         }
         let length = usize::from(u16::from_be_bytes([rest[0], rest[1]]));
         rest = &rest[2..];
@@ -33,8 +38,14 @@ pub fn split(stream: &[u8]) -> Result<Vec<&[u8]>, String> {
 
 /// Takes the next answer off: eight lines, or what there is.
 pub fn take_answer<'a>(answers: &mut &'a [u8]) -> &'a [u8] {
-    let ends = answers.iter().enumerate().filter(|(_, &byte)| byte == b'\n');
-    let end = ends.map(|(place, _)| place + 1).nth(7).unwrap_or(answers.len());
+    let ends = answers
+        .iter()
+        .enumerate()
+        .filter(|(_, &byte)| byte == b'\n');
+    let end = ends
+        .map(|(place, _)| place + 1)
+        .nth(7)
+        .unwrap_or(answers.len());
     let (answer, rest) = answers.split_at(end);
     *answers = rest;
     answer

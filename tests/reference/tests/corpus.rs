@@ -43,8 +43,10 @@ fn single_faults_are_on_every_kind_of_line() {
     wanted.extend([(7, Final), (7, BadFinal)].map(|(number, kind)| (number, Some(kind))));
     wanted.extend([(8, L), (8, R), (9, L), (10, R), (11, Merge)].map(|(n, kind)| (n, Some(kind))));
     for model in [document::example(), document::wider()] {
-        let found: BTreeSet<(u8, Option<Kind>)> =
-            singles(&model).iter().map(|single| (single.expected.number, single.kind)).collect();
+        let found: BTreeSet<(u8, Option<Kind>)> = singles(&model)
+            .iter()
+            .map(|single| (single.expected.number, single.kind))
+            .collect();
         assert_eq!(found, wanted);
     }
 }
@@ -61,14 +63,20 @@ fn the_corpus_has_every_refusal_and_verdict() {
         match read(file) {
             Err(refusal) => *refusals.entry(refusal.number).or_default() += 1,
             Ok(certificate) => {
-                *verdicts.entry(judge(&certificate, swift).name()).or_default() += 1
+                *verdicts
+                    .entry(judge(&certificate, swift).name())
+                    .or_default() += 1
             }
         }
     }
     // A file too long for 2 has 16 kB, so there are fewer of these.
     assert!(refusals[&2] >= 5);
     for number in 3..=11 {
-        assert!(refusals[&number] >= 50, "refusal {number}: {}", refusals[&number]);
+        assert!(
+            refusals[&number] >= 50,
+            "refusal {number}: {}",
+            refusals[&number]
+        );
     }
     for verdict in ["accepted", "critical", "stopped", "unsuitable"] {
         assert!(verdicts[verdict] >= 50, "{verdict}");
@@ -111,13 +119,14 @@ fn the_corpus_has_hard_ones() {
     let mut deep = [0; 4];
     let mut accepted_with_rules = 0;
     for file in corpus() {
-        let Ok(certificate) = read(&file) else { continue };
+        let Ok(certificate) = read(&file) else {
+            continue;
+        };
         match judge(&certificate, swift) {
             Verdict::Critical(critical) => {
                 late_rule += u32::from(critical.rule > 0);
                 late_place += u32::from(critical.place > 50);
-                let places = (certificate.merge.iter().max().unwrap() + 1) as u64;
-                let wide = critical.substitution.len() > 2 && places.pow(2) > 64;
+                let wide = critical.substitution.len() > 2 && critical.place > 64;
                 late_first += u32::from(wide && critical.substitution[0] > 0);
                 by_variables[critical.substitution.len()] += 1;
             }
@@ -131,11 +140,16 @@ fn the_corpus_has_hard_ones() {
             Verdict::Stopped { .. } => {}
         }
     }
-    println!("{late_rule} {late_place} {late_first} {by_variables:?} {deep:?} {accepted_with_rules}");
+    println!(
+        "{late_rule} {late_place} {late_first} {by_variables:?} {deep:?} {accepted_with_rules}"
+    );
     assert!(late_rule >= 50, "{late_rule}");
     assert!(late_place >= 50, "{late_place}");
-    assert!(late_first >= 10, "{late_first}");
-    assert!(by_variables.iter().all(|&count| count >= 10), "{by_variables:?}");
+    assert!(late_first >= 25, "{late_first}");
+    assert!(
+        by_variables.iter().all(|&count| count >= 10),
+        "{by_variables:?}"
+    );
     assert!(deep.iter().all(|&count| count >= 20), "{deep:?}");
     assert!(accepted_with_rules >= 50, "{accepted_with_rules}");
 }
@@ -158,7 +172,7 @@ fn the_same_seed_gives_the_same_bytes() {
 }
 
 /// Known from one machine; the others must agree.
-const FIRST_SEED: u64 = 3_794_491_118_031_127_927;
+const FIRST_SEED: u64 = 9_232_699_085_916_221_814;
 
 #[test]
 fn random_ones_are_half_malformed_and_of_all_verdicts() {
@@ -169,13 +183,21 @@ fn random_ones_are_half_malformed_and_of_all_verdicts() {
         match read(&packed(9, index)) {
             Err(_) => malformed += 1,
             Ok(certificate) => {
-                *verdicts.entry(judge(&certificate, swift).name()).or_default() += 1
+                *verdicts
+                    .entry(judge(&certificate, swift).name())
+                    .or_default() += 1
             }
         }
     }
-    assert!((count * 2 / 5..count * 3 / 5).contains(&malformed), "{malformed}");
+    assert!(
+        (count * 2 / 5..count * 3 / 5).contains(&malformed),
+        "{malformed}"
+    );
     assert_eq!(verdicts.len(), 4);
-    assert!(verdicts.values().all(|&number| number >= 250), "{verdicts:?}");
+    assert!(
+        verdicts.values().all(|&number| number >= 250),
+        "{verdicts:?}"
+    );
 }
 
 #[test]
@@ -189,7 +211,10 @@ fn streams_are_packed_and_split() {
     assert!(stream::split(&bytes[..bytes.len() - 1]).is_err());
     assert!(stream::split(&[0]).is_err());
     let mut answers = &b"1\n2\n3\n4\n5\n6\n7\n8\n9\n"[..];
-    assert_eq!(stream::take_answer(&mut answers), b"1\n2\n3\n4\n5\n6\n7\n8\n");
+    assert_eq!(
+        stream::take_answer(&mut answers),
+        b"1\n2\n3\n4\n5\n6\n7\n8\n"
+    );
     assert_eq!(stream::take_answer(&mut answers), b"9\n");
     assert_eq!(stream::take_answer(&mut answers), b"");
 }

@@ -5,8 +5,13 @@ use reference::generate::document::{example, proved, run, EXAMPLE};
 
 /// The eight lines from their values, in the paper's order.
 fn lines(values: [&str; 8]) -> String {
-    let keys = ["verdict", "refusal", "line", "rule", "x", "class", "bad", "examined"];
-    keys.iter().zip(values).map(|(key, value)| format!("{key}={value}\n")).collect()
+    let keys = [
+        "verdict", "refusal", "line", "rule", "x", "class", "bad", "examined",
+    ];
+    keys.iter()
+        .zip(values)
+        .map(|(key, value)| format!("{key}={value}\n"))
+        .collect()
 }
 
 fn accepted(examined: &str) -> String {
@@ -97,7 +102,11 @@ fn with(old: &str, new: &str) -> Vec<u8> {
 fn refused(old: &str, new: &str, number: u8, line: u32) {
     let file = with(old, new);
     assert_eq!(answer(&file).0, number, "{new:?}");
-    assert_eq!(text(&file), malformed(&number.to_string(), &line.to_string()), "{new:?}");
+    assert_eq!(
+        text(&file),
+        malformed(&number.to_string(), &line.to_string()),
+        "{new:?}"
+    );
 }
 
 /// The whole line is looked through before its number is chosen.
@@ -117,12 +126,16 @@ fn the_smallest_number_on_a_line() {
     refused("l=2,x0", &tokens("x"), 4, 18);
     refused("l=2,x0", &tokens("0"), 6, 18);
     refused("l=2,x0", &tokens("1"), 6, 18);
-    let arities = |count: usize, last: &str| format!("arities=0,1,1{},{last}", ",0".repeat(count - 4));
+    let arities =
+        |count: usize, last: &str| format!("arities=0,1,1{},{last}", ",0".repeat(count - 4));
     refused("arities=0,1,1", &arities(66, "4"), 5, 2);
     refused("arities=0,1,1", &arities(66, "x"), 4, 2);
     refused("arities=0,1,1", &arities(66, "0"), 6, 2);
     refused("arities=0,1,1", &arities(65, "0"), 6, 2);
-    assert_eq!(text(&with("arities=0,1,1", &arities(64, "0"))), accepted("3"));
+    assert_eq!(
+        text(&with("arities=0,1,1", &arities(64, "0"))),
+        accepted("3")
+    );
     refused("final=1", "final=3,2,1,0,0", 7, 4);
     refused("final=1", "final=2,1,4", 5, 4);
     refused("final=1", "final=2,1,", 4, 4);
@@ -156,11 +169,21 @@ fn numbers_and_tokens() {
         ("budget =1", 3),
     ] {
         let file = format!("{value}{}", &EXAMPLE[11..]);
-        assert_eq!(text(file.as_bytes()), malformed(&number.to_string(), "1"), "{value:?}");
+        assert_eq!(
+            text(file.as_bytes()),
+            malformed(&number.to_string(), "1"),
+            "{value:?}"
+        );
     }
-    for (token, number) in
-        [("x4", 5), ("x99999999", 5), ("x100000000", 4), ("x", 4), ("x00", 4), ("X0", 4), ("3", 5)]
-    {
+    for (token, number) in [
+        ("x4", 5),
+        ("x99999999", 5),
+        ("x100000000", 4),
+        ("x", 4),
+        ("x00", 4),
+        ("X0", 4),
+        ("3", 5),
+    ] {
         refused("r=2,1,1,x0", &format!("r=2,{token}"), number, 19);
     }
     assert_eq!(text(&with("badfinal=2", "badfinal=")), accepted("3"));
@@ -205,9 +228,12 @@ fn files_too_long() {
 /// Budget 0 with a rule is stopped; the larger budgets follow.
 #[test]
 fn budgets() {
-    for (budget, wanted) in
-        [("0", stopped("0")), ("2", stopped("2")), ("3", accepted("3")), ("33554432", accepted("3"))]
-    {
+    for (budget, wanted) in [
+        ("0", stopped("0")),
+        ("2", stopped("2")),
+        ("3", accepted("3")),
+        ("33554432", accepted("3")),
+    ] {
         let file = EXAMPLE.replace("budget=1000", &format!("budget={budget}"));
         assert_eq!(text(file.as_bytes()), wanted);
     }
@@ -219,7 +245,8 @@ fn slips_that_look_right() {
     // Two final marks that share no tree: class 1 and state 2 of B.
     assert_eq!(text(&with("u=2,1,2", "u=2,2,2")), accepted("3"));
     // A right side with several classes is not blamed.
-    let several = "budget=9\narities=0,1\nstates=3\nfinal=\ntrans=4\nt=0,0\nt=0,1\nt=1,0,0\nt=1,1,2\n\
+    let several =
+        "budget=9\narities=0,1\nstates=3\nfinal=\ntrans=4\nt=0,0\nt=0,1\nt=1,0,0\nt=1,1,2\n\
         badstates=1\nbadfinal=\nbadtrans=0\nrules=2\nl=0\nr=0\nl=1,0\nr=1,0\nmerge=0,1,2\n";
     assert_eq!(text(several.as_bytes()), accepted("2"));
     // A repeated variable has one class: f(x0) has class 0 under x0 = 0, but

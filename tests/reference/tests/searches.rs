@@ -83,9 +83,14 @@ fn answers_are_under_128_bytes() {
 fn reached(merged: &Table, bad: &Table) -> Option<BTreeSet<(u64, u64)>> {
     let step = |table: &Table, symbol: usize, sets: &[u64]| {
         let fits = |row: &&reference::automaton::Row| {
-            sets.iter().enumerate().all(|(n, set)| set >> row.arguments[n] & 1 == 1)
+            sets.iter()
+                .enumerate()
+                .all(|(n, set)| set >> row.arguments[n] & 1 == 1)
         };
-        table.rows[symbol].iter().filter(fits).fold(0u64, |set, row| set | 1 << row.target)
+        table.rows[symbol]
+            .iter()
+            .filter(fits)
+            .fold(0u64, |set, row| set | 1 << row.target)
     };
     let mut met: BTreeSet<(u64, u64)> = BTreeSet::new();
     loop {
@@ -95,8 +100,9 @@ fn reached(merged: &Table, bad: &Table) -> Option<BTreeSet<(u64, u64)>> {
         }
         for (symbol, &arity) in merged.arities.iter().enumerate() {
             for code in 0..known.len().pow(arity as u32) {
-                let choice: Vec<(u64, u64)> =
-                    (0..arity).map(|n| known[code / known.len().pow(n as u32) % known.len()]).collect();
+                let choice: Vec<(u64, u64)> = (0..arity)
+                    .map(|n| known[code / known.len().pow(n as u32) % known.len()])
+                    .collect();
                 let one: Vec<u64> = choice.iter().map(|pair| pair.0).collect();
                 let other: Vec<u64> = choice.iter().map(|pair| pair.1).collect();
                 met.insert((step(merged, symbol, &one), step(bad, symbol, &other)));
@@ -113,12 +119,18 @@ fn sharing_is_by_one_ground_term() {
     let mut tried = 0;
     for certificate in certificates(7, 1200) {
         let (merged, bad) = (Table::merged(&certificate), Table::bad(&certificate));
-        let Some(reached) = reached(&merged, &bad) else { continue };
+        let Some(reached) = reached(&merged, &bad) else {
+            continue;
+        };
         tried += 1;
         let shared = sharing(&merged, &bad);
         for (class, &states) in shared.iter().enumerate() {
             let with_class = reached.iter().filter(|sets| sets.0 >> class & 1 == 1);
-            assert_eq!(states, with_class.fold(0, |all, sets| all | sets.1), "{certificate:?}");
+            assert_eq!(
+                states,
+                with_class.fold(0, |all, sets| all | sets.1),
+                "{certificate:?}"
+            );
         }
     }
     assert!(tried > 600, "{tried}");

@@ -2,7 +2,7 @@
 use native.Mathlib.Omega.{arith}
 use mathlib.Core.Path.{sym, _∙_}
 use borrow.Author.Tests.{le-leb, lt-leb}
-use Rattle.sharing.proofs.Bools.{or-on, or-off}
+use Rattle.theory.proofs.Bools.{or-on, or-off}
 use borrow.Author.Needs.{needs}
 use Rattle.sharing.proofs.arg_joins.Statement.{statement}
 use Rattle.sharing.proofs.arg_joins.Tie as tie

@@ -6,7 +6,7 @@ use lib.Dec.{leb}
 use borrow.Author.Tests.{eq-eqb, ne-eqb}
 use Rattle.sharing.specs.Share.{joins, rel}
 use Rattle.sharing.specs.Share.{arg}
-use Rattle.sharing.proofs.Bools.{and-on, and-off}
+use Rattle.theory.proofs.Bools.{and-on, and-off}
 use Prim.Native.Nat.{ℕ, _*_}
 use borrow.Author.Needs.{needs}
 use Rattle.sharing.proofs.rows_join.Statement.{statement}

@@ -7,7 +7,7 @@ use mathlib.Core.List.{List}
 use Prim.Native.Nat.{ℕ, _+_, _-_, _*_, _/_, _^_, _≤_, _<_}
 use lib.ListN.{length, getD}
 use Rattle.sharing.specs.Share.{Sound, Words, PassedTo, sum}
-use Rattle.sharing.proofs.Sharing.{sum-most, exact, zero-at, falls}
+use Rattle.sharing.proofs.Sharing.{sum-most, exact, falls}
 use Rattle.sets.specs.Sets.{Set, mem}
 use Rattle.sets.proofs.Laws.{mem-zero}
 use mathlib.Core.Bool.{true≢false, false≢true}
@@ -18,6 +18,7 @@ use Rattle.sharing.proofs.share.Tie as tie
 use Rattle.sharing.proofs.share.Reads as reads
 use Rattle.sharing.proofs.share.Lts as lts
 use Rattle.sharing.proofs.pass.Reads as pass-reads
+use Rattle.theory.proofs.Bools.{zero-at}
 
 abbrev Inv-loop : tie.InvT-loop
 Inv-loop merged bad ar pairs₀ more₀ pairs more = (length pairs ≡ 64) × Words pairs × Sound merged bad ar pairs × (more ≡ false → PassedTo merged bad ar pairs (length merged / 5))

@@ -4,7 +4,11 @@ use crate::random::Random;
 
 /// Where each line begins, and the file's end.
 fn starts(file: &[u8]) -> Vec<usize> {
-    let after = file.iter().enumerate().filter(|(_, &byte)| byte == b'\n').map(|(n, _)| n + 1);
+    let after = file
+        .iter()
+        .enumerate()
+        .filter(|(_, &byte)| byte == b'\n')
+        .map(|(n, _)| n + 1);
     std::iter::once(0).chain(after).collect()
 }
 
@@ -55,7 +59,11 @@ pub fn at_each_line(file: &[u8]) -> Vec<Vec<u8>> {
         files.push(with_byte(file, end, b'\r'));
         files.push(inserted(file, end, b"\n"));
         files.push(without(file, end));
-        let equals = start + file[start..end].iter().position(|&b| b == b'=').unwrap_or(0);
+        let equals = start
+            + file[start..end]
+                .iter()
+                .position(|&b| b == b'=')
+                .unwrap_or(0);
         for strange in [&b"\0"[..], b" ", b"\x80", b"\xff", b"\xef\xbb\xbf"] {
             files.push(inserted(file, start, strange));
             files.push(inserted(file, equals + 1, strange));
@@ -72,7 +80,11 @@ pub fn at_each_line(file: &[u8]) -> Vec<Vec<u8>> {
 /// Some damage at random, once or a few times.
 pub fn random_damage(file: &[u8], random: &mut Random) -> Vec<u8> {
     let mut file = file.to_vec();
-    let times = if random.chance(70) { 1 } else { 1 + random.below(4) };
+    let times = if random.chance(70) {
+        1
+    } else {
+        1 + random.below(4)
+    };
     for _ in 0..times {
         if file.is_empty() {
             break;
@@ -100,16 +112,20 @@ pub fn random_damage(file: &[u8], random: &mut Random) -> Vec<u8> {
             13 => inserted(&file, place, &b"0123456789,x=\n"[random.below(14)..][..1]),
             14 => {
                 // Two lines exchanged.
-                let mut pieces: Vec<Vec<u8>> =
-                    file.split_inclusive(|&byte| byte == b'\n').map(<[u8]>::to_vec).collect();
+                let mut pieces: Vec<Vec<u8>> = file
+                    .split_inclusive(|&byte| byte == b'\n')
+                    .map(<[u8]>::to_vec)
+                    .collect();
                 let (one, other) = (random.below(pieces.len()), random.below(pieces.len()));
                 pieces.swap(one, other);
                 pieces.concat()
             }
             _ => {
                 // A line doubled.
-                let mut pieces: Vec<Vec<u8>> =
-                    file.split_inclusive(|&byte| byte == b'\n').map(<[u8]>::to_vec).collect();
+                let mut pieces: Vec<Vec<u8>> = file
+                    .split_inclusive(|&byte| byte == b'\n')
+                    .map(<[u8]>::to_vec)
+                    .collect();
                 let one = random.below(pieces.len());
                 let again = pieces[one].clone();
                 pieces.insert(one, again);

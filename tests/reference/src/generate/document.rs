@@ -50,12 +50,24 @@ pub fn proved() -> Vec<(&'static str, Vec<u8>)> {
         ("K5", changed(&[(MERGE, "merge=0,1,2,2\n")])),
         ("K6", changed(&[(BUDGET, "budget=3\n")])),
         ("K7", changed(&[(BUDGET, "budget=2\n")])),
-        ("K8 with 3", changed(&[(MERGE, "merge=0,1,2,3\n"), (BUDGET, "budget=3\n")])),
-        ("K8 with 4", changed(&[(MERGE, "merge=0,1,2,3\n"), (BUDGET, "budget=4\n")])),
-        ("K9", changed(&[(RULE, "rules=0\n"), (BUDGET, "budget=0\n")])),
+        (
+            "K8 with 3",
+            changed(&[(MERGE, "merge=0,1,2,3\n"), (BUDGET, "budget=3\n")]),
+        ),
+        (
+            "K8 with 4",
+            changed(&[(MERGE, "merge=0,1,2,3\n"), (BUDGET, "budget=4\n")]),
+        ),
+        (
+            "K9",
+            changed(&[(RULE, "rules=0\n"), (BUDGET, "budget=0\n")]),
+        ),
         ("K10", changed(&[(RULE, "rules=1\nl=1,x0\nr=x0\n")])),
         ("K11", changed(&[(RULE, "rules=1\nl=0\nr=2,0\n")])),
-        ("K12", changed(&[(RULE, "rules=2\nl=2,x0\nr=2,1,1,x0\nl=1,x0\nr=x0\n")])),
+        (
+            "K12",
+            changed(&[(RULE, "rules=2\nl=2,x0\nr=2,1,1,x0\nl=1,x0\nr=x0\n")]),
+        ),
     ]
 }
 
@@ -89,7 +101,13 @@ pub fn example() -> Model {
         a: Side {
             states: 4,
             finals: vec![1],
-            rows: vec![row(&[0, 0]), row(&[2, 0, 1]), row(&[1, 0, 2]), row(&[1, 2, 3]), row(&[2, 3, 1])],
+            rows: vec![
+                row(&[0, 0]),
+                row(&[2, 0, 1]),
+                row(&[1, 0, 2]),
+                row(&[1, 2, 3]),
+                row(&[2, 3, 1]),
+            ],
         },
         b: Side {
             states: 3,
@@ -124,7 +142,12 @@ pub fn wider() -> Model {
         b: Side {
             states: 4,
             finals: vec![2, 3],
-            rows: vec![row(&[0, 0]), row(&[2, 1, 1, 2]), row(&[3, 0, 0, 1, 3]), row(&[1, 3, 1])],
+            rows: vec![
+                row(&[0, 0]),
+                row(&[2, 1, 1, 2]),
+                row(&[3, 0, 0, 1, 3]),
+                row(&[1, 3, 1]),
+            ],
         },
         rules: vec![
             (pair(x(0), x(1)), pair(x(1), x(0))),

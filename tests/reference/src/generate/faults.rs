@@ -22,15 +22,51 @@ pub struct Fault {
 
 /// No numbers, anywhere.
 const NO_NUMBER: [&[u8]; 27] = [
-    b"", b"00", b"01", b"007", b"000000000", b"123456789", b"100000000", b"4294967296",
-    b"18446744073709551616", b" 1", b"1 ", b"1\r", b"\r", b"\0", b"1\0", b"\x80", b"1\xff",
-    b"+1", b"-1", b"a", b"1a", b"/", b":", b"1.", b"0x1", b"1\t", b"X0",
+    b"",
+    b"00",
+    b"01",
+    b"007",
+    b"000000000",
+    b"123456789",
+    b"100000000",
+    b"4294967296",
+    b"18446744073709551616",
+    b" 1",
+    b"1 ",
+    b"1\r",
+    b"\r",
+    b"\0",
+    b"1\0",
+    b"\x80",
+    b"1\xff",
+    b"+1",
+    b"-1",
+    b"a",
+    b"1a",
+    b"/",
+    b":",
+    b"1.",
+    b"0x1",
+    b"1\t",
+    b"X0",
 ];
 
 /// No tokens of a term.
 const NO_TOKEN: [&[u8]; 14] = [
-    b"x", b"x00", b"x01", b"xx0", b"0x", b"x0x", b"x123456789", b"x-1", b"x 0", b"x0 ", b"y0",
-    b"w0", b"x0\r", b"x\x80",
+    b"x",
+    b"x00",
+    b"x01",
+    b"xx0",
+    b"0x",
+    b"x0x",
+    b"x123456789",
+    b"x-1",
+    b"x 0",
+    b"x0 ",
+    b"y0",
+    b"w0",
+    b"x0\r",
+    b"x\x80",
 ];
 
 /// Spellings with which a key is spoiled.
@@ -69,13 +105,29 @@ pub fn on_line(model: &Model, lines: &[Line], index: usize) -> Vec<Fault> {
     let line = &lines[index];
     let mut faults = Vec::new();
     for bytes in wrong_keys(line) {
-        faults.push(Fault { number: 3, here: true, bytes });
+        faults.push(Fault {
+            number: 3,
+            here: true,
+            bytes,
+        });
     }
     // Gone, or there twice: among lines of one kind this shows only later.
-    faults.push(Fault { number: 3, here: !matches!(line.kind, Kind::T | Kind::U), bytes: vec![] });
-    faults.push(Fault { number: 3, here: false, bytes: [line.bytes(), line.bytes()].concat() });
+    faults.push(Fault {
+        number: 3,
+        here: !matches!(line.kind, Kind::T | Kind::U),
+        bytes: vec![],
+    });
+    faults.push(Fault {
+        number: 3,
+        here: false,
+        bytes: [line.bytes(), line.bytes()].concat(),
+    });
     for (number, value) in values(model, lines, index) {
-        faults.push(Fault { number, here: true, bytes: with_value(line.kind, &value) });
+        faults.push(Fault {
+            number,
+            here: true,
+            bytes: with_value(line.kind, &value),
+        });
     }
     faults
 }
@@ -91,7 +143,11 @@ pub fn values(model: &Model, lines: &[Line], index: usize) -> Vec<(u8, Vec<u8>)>
     let spelt: Vec<&[u8]> = if term {
         NO_NUMBER.iter().chain(&NO_TOKEN).copied().collect()
     } else {
-        NO_NUMBER.iter().copied().chain([&b"x0"[..], b"x"]).collect()
+        NO_NUMBER
+            .iter()
+            .copied()
+            .chain([&b"x0"[..], b"x"])
+            .collect()
     };
     let finals = matches!(line.kind, Kind::Final | Kind::BadFinal);
     for (turn, wrong) in spelt.into_iter().enumerate() {
@@ -133,12 +189,7 @@ pub fn values(model: &Model, lines: &[Line], index: usize) -> Vec<(u8, Vec<u8>)>
 fn single(kind: Kind) -> bool {
     matches!(
         kind,
-        Kind::Budget
-            | Kind::States
-            | Kind::Trans
-            | Kind::BadStates
-            | Kind::BadTrans
-            | Kind::Rules
+        Kind::Budget | Kind::States | Kind::Trans | Kind::BadStates | Kind::BadTrans | Kind::Rules
     )
 }
 
@@ -167,7 +218,12 @@ fn out_of_range_single(kind: Kind) -> Vec<u32> {
 /// Entries out of range for the place in a list.
 fn out_of_range(model: &Model, kind: Kind, place: usize) -> Vec<String> {
     let from = |least: u32| {
-        vec![least.to_string(), (least + 1).to_string(), "256".into(), "99999999".into()]
+        vec![
+            least.to_string(),
+            (least + 1).to_string(),
+            "256".into(),
+            "99999999".into(),
+        ]
     };
     let symbols = model.arities.len() as u32;
     match kind {
@@ -200,7 +256,11 @@ fn structure(model: &Model, lines: &[Line], index: usize) -> Vec<(u8, Vec<u8>)> 
             }
         }
         Kind::Final | Kind::BadFinal => {
-            let states = if line.kind == Kind::Final { model.a.states } else { model.b.states };
+            let states = if line.kind == Kind::Final {
+                model.a.states
+            } else {
+                model.b.states
+            };
             let last = states - 1;
             values.push((7, text("0,0")));
             values.push((7, many(&last.to_string(), 2)));
@@ -275,7 +335,9 @@ fn term_structure(model: &Model, lines: &[Line], index: usize) -> Vec<(u8, Vec<u
     values.push((8, b"x0,x0".to_vec()));
     values.push((8, b"x0,x1".to_vec()));
 
-    let variables: Vec<usize> = (0..entries.len()).filter(|&n| entries[n][0] == b'x').collect();
+    let variables: Vec<usize> = (0..entries.len())
+        .filter(|&n| entries[n][0] == b'x')
+        .collect();
     if left {
         for bare in ["x0", "x1", "x2", "x3"] {
             values.push((9, bare.as_bytes().to_vec()));
@@ -288,7 +350,11 @@ fn term_structure(model: &Model, lines: &[Line], index: usize) -> Vec<(u8, Vec<u
         }
     } else {
         let before = &lines[index - 1];
-        let count = before.entries().iter().filter(|entry| entry[0] == b'x').count();
+        let count = before
+            .entries()
+            .iter()
+            .filter(|entry| entry[0] == b'x')
+            .count();
         for other in count..4 {
             let wrong = format!("x{other}");
             values.push((10, wrong.clone().into_bytes()));
@@ -315,8 +381,20 @@ pub fn with_line(lines: &[Line], index: usize, bytes: &[u8]) -> Vec<u8> {
 
 /// Bytes after the last line.
 const AFTER: [&[u8]; 14] = [
-    b"\n", b"\n\n", b"0", b" ", b"\r", b"\r\n", b"\0", b"\xff", b"merge=0\n", b"budget=1\n",
-    b"end", b"l=0\n", b"=", b"x",
+    b"\n",
+    b"\n\n",
+    b"0",
+    b" ",
+    b"\r",
+    b"\r\n",
+    b"\0",
+    b"\xff",
+    b"merge=0\n",
+    b"budget=1\n",
+    b"end",
+    b"l=0\n",
+    b"=",
+    b"x",
 ];
 
 /// A file with one fault, what it must be refused with, and the kind of line
@@ -336,21 +414,46 @@ pub fn singles(model: &Model) -> Vec<Single> {
         let kind = Some(lines[index].kind);
         for fault in on_line(model, &lines, index) {
             let line = fault.here.then_some(index as u32 + 1);
-            let expected = Expected { number: fault.number, line };
-            cases.push(Single { kind, expected, file: with_line(&lines, index, &fault.bytes) });
+            let expected = Expected {
+                number: fault.number,
+                line,
+            };
+            cases.push(Single {
+                kind,
+                expected,
+                file: with_line(&lines, index, &fault.bytes),
+            });
         }
         // Without its LF at the end of the file, and with none of it at all.
         let sound = lines[index].bytes();
         let begin: Vec<u8> = lines[..index].iter().flat_map(Line::bytes).collect();
-        let expected = Expected { number: 3, line: Some(index as u32 + 1) };
+        let expected = Expected {
+            number: 3,
+            line: Some(index as u32 + 1),
+        };
         let cut = [&begin[..], &sound[..sound.len() - 1]].concat();
-        cases.push(Single { kind, expected, file: cut });
-        cases.push(Single { kind, expected, file: begin });
+        cases.push(Single {
+            kind,
+            expected,
+            file: cut,
+        });
+        cases.push(Single {
+            kind,
+            expected,
+            file: begin,
+        });
     }
     let whole = model.write();
-    let expected = Expected { number: 3, line: Some(lines.len() as u32 + 1) };
+    let expected = Expected {
+        number: 3,
+        line: Some(lines.len() as u32 + 1),
+    };
     for bytes in AFTER {
-        cases.push(Single { kind: None, expected, file: [&whole[..], bytes].concat() });
+        cases.push(Single {
+            kind: None,
+            expected,
+            file: [&whole[..], bytes].concat(),
+        });
     }
     cases
 }
@@ -382,11 +485,20 @@ pub fn doubles(model: &Model) -> Vec<Vec<u8>> {
             found.push(format!("{wrong}\r").into_bytes());
         }
         for (number, value) in structure(model, &lines, index) {
-            let sound = Line { kind, value: value.clone() };
+            let sound = Line {
+                kind,
+                value: value.clone(),
+            };
             let inner = sound.entries();
             let last = inner.len() - 1;
-            let late = out_of_range(model, kind, 1).first().cloned().unwrap_or_default();
-            let first = out_of_range(model, kind, 0).first().cloned().unwrap_or_default();
+            let late = out_of_range(model, kind, 1)
+                .first()
+                .cloned()
+                .unwrap_or_default();
+            let first = out_of_range(model, kind, 0)
+                .first()
+                .cloned()
+                .unwrap_or_default();
             for (place, wrong) in [(0, &first), (last, &late)] {
                 found.push(join(&replaced(&inner, place, wrong.as_bytes())));
                 found.push(join(&replaced(&inner, place, misspelt)));
@@ -447,7 +559,13 @@ pub fn on_two_lines(model: &Model, random: &mut Random, count: usize) -> Vec<(Ex
                 file.extend_from_slice(&line.bytes());
             }
         }
-        cases.push((Expected { number: one.0, line: Some(first as u32 + 1) }, file));
+        cases.push((
+            Expected {
+                number: one.0,
+                line: Some(first as u32 + 1),
+            },
+            file,
+        ));
     }
     cases
 }
@@ -466,13 +584,19 @@ pub fn random_fault(model: &Model, random: &mut Random, wished: u8) -> Vec<u8> {
     let mut kinds = Kind::ALL;
     random.shuffle(&mut kinds);
     for kind in kinds {
-        let places: Vec<usize> = (0..lines.len()).filter(|&n| lines[n].kind == kind).collect();
+        let places: Vec<usize> = (0..lines.len())
+            .filter(|&n| lines[n].kind == kind)
+            .collect();
         if places.is_empty() {
             continue;
         }
         let index = *random.pick(&places);
         if wished == 3 {
-            return with_line(&lines, index, &random.pick(&on_line(model, &lines, index)).bytes);
+            return with_line(
+                &lines,
+                index,
+                &random.pick(&on_line(model, &lines, index)).bytes,
+            );
         }
         let mut faults = values(model, &lines, index);
         faults.retain(|fault| fault.0 == wished);
@@ -489,7 +613,10 @@ pub fn random_fault(model: &Model, random: &mut Random, wished: u8) -> Vec<u8> {
 
 /// A faulty value with one more fault, perhaps.
 fn with_another(value: &[u8], random: &mut Random) -> Vec<u8> {
-    let entries: Vec<Vec<u8>> = value.split(|&byte| byte == b',').map(<[u8]>::to_vec).collect();
+    let entries: Vec<Vec<u8>> = value
+        .split(|&byte| byte == b',')
+        .map(<[u8]>::to_vec)
+        .collect();
     let place = random.below(entries.len());
     let wrong = match random.below(3) {
         0 => NO_NUMBER[random.below(NO_NUMBER.len())].to_vec(),

@@ -91,7 +91,10 @@ pub struct Line {
 
 impl Line {
     pub fn new(kind: Kind, value: impl AsRef<[u8]>) -> Line {
-        Line { kind, value: value.as_ref().to_vec() }
+        Line {
+            kind,
+            value: value.as_ref().to_vec(),
+        }
     }
 
     /// The line with its LF.
@@ -104,7 +107,10 @@ impl Line {
         if self.value.is_empty() {
             return Vec::new();
         }
-        self.value.split(|&byte| byte == b',').map(<[u8]>::to_vec).collect()
+        self.value
+            .split(|&byte| byte == b',')
+            .map(<[u8]>::to_vec)
+            .collect()
     }
 }
 
@@ -165,7 +171,13 @@ impl Model {
         ];
         let kinds = [
             (&self.a, Kind::States, Kind::Final, Kind::Trans, Kind::T),
-            (&self.b, Kind::BadStates, Kind::BadFinal, Kind::BadTrans, Kind::U),
+            (
+                &self.b,
+                Kind::BadStates,
+                Kind::BadFinal,
+                Kind::BadTrans,
+                Kind::U,
+            ),
         ];
         for (side, states, finals, count, row_kind) in kinds {
             lines.push(Line::new(states, side.states.to_string()));
@@ -194,7 +206,10 @@ impl Model {
     /// The sum of k^v over the rules.
     pub fn total(&self) -> u64 {
         let classes = u64::from(self.classes());
-        self.rules.iter().map(|(left, _)| classes.pow(left.variables())).sum()
+        self.rules
+            .iter()
+            .map(|(left, _)| classes.pow(left.variables()))
+            .sum()
     }
 }
 

@@ -13,7 +13,10 @@ fn x(variable: u32) -> Tree {
 /// The example with one line's value replaced.
 fn with(kind: Kind, value: &str) -> Vec<u8> {
     let lines = example().lines();
-    let index = lines.iter().position(|line| line.kind == kind).expect("a line of this kind");
+    let index = lines
+        .iter()
+        .position(|line| line.kind == kind)
+        .expect("a line of this kind");
     with_line(&lines, index, &with_value(kind, value.as_bytes()))
 }
 
@@ -29,11 +32,33 @@ fn padded(mut file: Vec<u8>, piece: &[u8], length: usize) -> Vec<u8> {
 /// Budgets around a total, and at the ends of their own range.
 fn budgets() -> Vec<Vec<u8>> {
     let spellings = [
-        "0", "1", "2", "3", "4", "5", "33554431", "33554432", "33554433", "99999999", "10000000",
-        "100000000", "033554432", "0033554432", "00", "03", "000", "00000003", "000000003",
-        "333333333", "4294967299", "18446744073709551619",
+        "0",
+        "1",
+        "2",
+        "3",
+        "4",
+        "5",
+        "33554431",
+        "33554432",
+        "33554433",
+        "99999999",
+        "10000000",
+        "100000000",
+        "033554432",
+        "0033554432",
+        "00",
+        "03",
+        "000",
+        "00000003",
+        "000000003",
+        "333333333",
+        "4294967299",
+        "18446744073709551619",
     ];
-    let mut files: Vec<Vec<u8>> = spellings.iter().map(|text| with(Kind::Budget, text)).collect();
+    let mut files: Vec<Vec<u8>> = spellings
+        .iter()
+        .map(|text| with(Kind::Budget, text))
+        .collect();
     let mut wide = super::document::wider();
     for total in [wide.total(), 0] {
         for budget in total.saturating_sub(2)..=total + 2 {
@@ -65,7 +90,9 @@ fn arities() -> Vec<Vec<u8>> {
     // The 64th symbol in use, and the 65th.
     let mut model = example();
     model.arities.resize(64, 0);
-    model.rules.push((Tree::Symbol(63, vec![]), Tree::Symbol(63, vec![])));
+    model
+        .rules
+        .push((Tree::Symbol(63, vec![]), Tree::Symbol(63, vec![])));
     model.a.rows.push(vec![63, 1]);
     model.b.rows.push(vec![63, 2]);
     files.push(model.write());
@@ -191,7 +218,13 @@ pub fn longest() -> Model {
         (0..128u32)
             .map(|n| {
                 let symbol = 13 + (n + shift) % 51;
-                vec![symbol, 10 + n % 22, 10 + (n * 7) % 22, 10 + (n * 5) % 22, 10 + (n * 3) % 22]
+                vec![
+                    symbol,
+                    10 + n % 22,
+                    10 + (n * 7) % 22,
+                    10 + (n * 5) % 22,
+                    10 + (n * 3) % 22,
+                ]
             })
             .collect()
     };
@@ -204,7 +237,9 @@ pub fn longest() -> Model {
     model.b.states = 32;
     model.b.finals = all.clone();
     model.b.rows = rows(5);
-    model.rules = (0..32).map(|n| (chain(x(0), 20 + n), chain(x(0), 25 + n))).collect();
+    model.rules = (0..32)
+        .map(|n| (chain(x(0), 20 + n), chain(x(0), 25 + n)))
+        .collect();
     model.merge = all;
     model
 }
@@ -261,7 +296,12 @@ fn lengths() -> Vec<Vec<u8>> {
     let mut files = Vec::new();
     let sound = example().write();
     let last = sound.len() - 1;
-    for length in [LARGEST_FILE - 1, LARGEST_FILE, LARGEST_FILE + 1, LARGEST_FILE + 2] {
+    for length in [
+        LARGEST_FILE - 1,
+        LARGEST_FILE,
+        LARGEST_FILE + 1,
+        LARGEST_FILE + 2,
+    ] {
         // Bytes after the last line.
         files.push(padded(sound.clone(), b"\n", length));
         // A last line too long, with and without its LF.
@@ -279,9 +319,17 @@ fn lengths() -> Vec<Vec<u8>> {
     files.push(padded(b"budget=1".to_vec(), b"0", LARGEST_FILE));
     let lines = example().lines();
     let finals = format!("0{}", ",1".repeat(7000));
-    files.push(with_line(&lines, 3, &with_value(Kind::Final, finals.as_bytes())));
+    files.push(with_line(
+        &lines,
+        3,
+        &with_value(Kind::Final, finals.as_bytes()),
+    ));
     let finals = format!("0{}", ",4".repeat(8080));
-    files.push(with_line(&lines, 3, &with_value(Kind::Final, finals.as_bytes())));
+    files.push(with_line(
+        &lines,
+        3,
+        &with_value(Kind::Final, finals.as_bytes()),
+    ));
     // Far too long, also for a length kept in 15 bits.
     files.push(padded(sound.clone(), b"\n", 32_768));
     files.push(padded(sound.clone(), b"merge=0\n", 20_000));
@@ -326,9 +374,32 @@ fn counts() -> Vec<Vec<u8>> {
 fn finals() -> Vec<Vec<u8>> {
     let mut files = Vec::new();
     let lists = [
-        "", "0", "0,1", "0,1,2", "0,2", "1,2", "2,1", "1,1", "0,1,1", "0,2,1", "3", "0,3", "0,1,2,3",
-        "0,1,2,3,4", "0,0,0,0,0", "4", "3,4", "4,3", "4,4", "3,3,4", "2,1,4", "2,1,x", "2,1,", ",",
-        "31", "32",
+        "",
+        "0",
+        "0,1",
+        "0,1,2",
+        "0,2",
+        "1,2",
+        "2,1",
+        "1,1",
+        "0,1,1",
+        "0,2,1",
+        "3",
+        "0,3",
+        "0,1,2,3",
+        "0,1,2,3,4",
+        "0,0,0,0,0",
+        "4",
+        "3,4",
+        "4,3",
+        "4,4",
+        "3,3,4",
+        "2,1,4",
+        "2,1,x",
+        "2,1,",
+        ",",
+        "31",
+        "32",
     ];
     for list in lists {
         files.push(with(Kind::Final, list));
@@ -342,10 +413,39 @@ fn finals() -> Vec<Vec<u8>> {
 fn merges() -> Vec<Vec<u8>> {
     let mut files = Vec::new();
     for code in 0..256u32 {
-        let entries: Vec<String> = (0..4).map(|n| (code >> (6 - 2 * n) & 3).to_string()).collect();
+        let entries: Vec<String> = (0..4)
+            .map(|n| (code >> (6 - 2 * n) & 3).to_string())
+            .collect();
         let file = with(Kind::Merge, &entries.join(","));
         if code % 4 == 1 || crate::reading::read(&file).is_ok() {
             files.push(file);
+        }
+    }
+    files
+}
+
+/// One tree of two or three leaves in each automaton, the leaves of two kinds:
+/// the tops share a tree only when all leaves are alike.
+fn leaves() -> Vec<Vec<u8>> {
+    let mut files = Vec::new();
+    for arity in [2, 3] {
+        for code in 0..1u32 << (2 * arity) {
+            let leaf = |n: u32| code >> n & 1;
+            let row = |from: u32| -> Vec<u32> {
+                [2].into_iter()
+                    .chain((0..arity).map(|n| leaf(from + n)))
+                    .chain([2])
+                    .collect()
+            };
+            let mut model = example();
+            model.arities = vec![0, 0, arity];
+            model.a.states = 3;
+            model.a.finals = vec![2];
+            model.a.rows = vec![row(0), vec![1, 1], vec![0, 0]];
+            model.b.rows = vec![row(arity), vec![0, 0], vec![1, 1]];
+            model.rules.clear();
+            model.merge = vec![0, 1, 2];
+            files.push(model.write());
         }
     }
     files
@@ -365,6 +465,7 @@ pub fn all(random: &mut Random) -> Vec<Vec<u8>> {
     files.extend(counts());
     files.extend(finals());
     files.extend(merges());
+    files.extend(leaves());
     random.shuffle(&mut files);
     files
 }
@@ -389,6 +490,10 @@ pub fn random_length(file: &[u8], random: &mut Random) -> Vec<u8> {
     let pieces: [&[u8]; 4] = [b"\n", b"0", b",0", b"merge=0\n"];
     let piece = pieces[random.below(4)];
     let length = LARGEST_FILE - 1 + random.below(4);
-    let keep = if random.chance(50) { file.len() } else { file.len().saturating_sub(1) };
+    let keep = if random.chance(50) {
+        file.len()
+    } else {
+        file.len().saturating_sub(1)
+    };
     padded(file[..keep].to_vec(), piece, length)
 }

@@ -16,7 +16,12 @@ pub enum Wish {
 }
 
 impl Wish {
-    pub const ALL: [Wish; 4] = [Wish::Accepted, Wish::Critical, Wish::Stopped, Wish::Unsuitable];
+    pub const ALL: [Wish; 4] = [
+        Wish::Accepted,
+        Wish::Critical,
+        Wish::Stopped,
+        Wish::Unsuitable,
+    ];
 }
 
 /// How large a certificate is to be.
@@ -30,10 +35,34 @@ struct Scale {
     substitutions: u64,
 }
 
-const SMALL: Scale = Scale { symbols: 5, states: 5, rows: 9, rules: 3, substitutions: 300 };
-const MIDDLE: Scale = Scale { symbols: 8, states: 9, rows: 20, rules: 5, substitutions: 900 };
-const LARGE: Scale = Scale { symbols: 64, states: 32, rows: 90, rules: 12, substitutions: 2500 };
-const LONG: Scale = Scale { symbols: 5, states: 12, rows: 25, rules: 3, substitutions: 22_000 };
+const SMALL: Scale = Scale {
+    symbols: 5,
+    states: 5,
+    rows: 9,
+    rules: 3,
+    substitutions: 300,
+};
+const MIDDLE: Scale = Scale {
+    symbols: 8,
+    states: 9,
+    rows: 20,
+    rules: 5,
+    substitutions: 900,
+};
+const LARGE: Scale = Scale {
+    symbols: 64,
+    states: 32,
+    rows: 90,
+    rules: 12,
+    substitutions: 2500,
+};
+const LONG: Scale = Scale {
+    symbols: 5,
+    states: 12,
+    rows: 25,
+    rules: 3,
+    substitutions: 22_000,
+};
 
 /// A sound certificate, of the wished verdict nearly always.
 pub fn valid(random: &mut Random, wish: Wish) -> Model {
@@ -45,6 +74,26 @@ pub fn valid(random: &mut Random, wish: Wish) -> Model {
         model = attempt(random, wish);
     }
     model
+}
+
+/// A critical one whose pair comes late: three or four variables, `x0` above 0,
+/// and more than 64 substitutions before.
+pub fn late(random: &mut Random) -> Model {
+    loop {
+        let mut model = system(random, MIDDLE);
+        complete(random, &mut model);
+        spoil_late(random, &mut model);
+        make_suitable(random, &mut model);
+        model.budget = u64::from(LARGEST_BUDGET);
+        let Verdict::Critical(critical) = verdict(&model) else {
+            continue;
+        };
+        let variables = critical.substitution.len();
+        if variables >= 3 && critical.substitution[0] > 0 && critical.place > 64 {
+            model.budget = critical_budget(random, critical.place, model.total());
+            return model;
+        }
+    }
 }
 
 fn attempt(random: &mut Random, wish: Wish) -> Model {
@@ -165,7 +214,9 @@ fn merge(random: &mut Random, states: u32) -> Vec<u32> {
         }
         _ => {
             let classes = states as usize;
-            wanted.iter_mut().for_each(|class| *class = random.below(classes) as u32);
+            wanted
+                .iter_mut()
+                .for_each(|class| *class = random.below(classes) as u32);
         }
     }
     renumbered(&wanted)
@@ -186,8 +237,16 @@ fn renumbered(wanted: &[u32]) -> Vec<u32> {
 }
 
 fn side(random: &mut Random, states: u32, arities: &[u32], rows: u32) -> Side {
-    let mut side = Side { states, finals: vec![], rows: vec![] };
-    let wanted = if random.chance(4) { 0 } else { random.below(rows as usize + 1) };
+    let mut side = Side {
+        states,
+        finals: vec![],
+        rows: vec![],
+    };
+    let wanted = if random.chance(4) {
+        0
+    } else {
+        random.below(rows as usize + 1)
+    };
     for _ in 0..wanted {
         let row = match random.below(10) {
             // The same transition again.
@@ -223,7 +282,11 @@ fn ground(random: &mut Random, arities: &[u32], depth: u32) -> Option<Tree> {
         .collect();
     let any_constant = arities.contains(&0);
     if fitting.is_empty() || !any_constant {
-        return if any_constant && depth > 0 { ground(random, arities, 0) } else { None };
+        return if any_constant && depth > 0 {
+            ground(random, arities, 0)
+        } else {
+            None
+        };
     }
     let symbol = *random.pick(&fitting);
     let under: Option<Vec<Tree>> = (0..arities[symbol as usize])
@@ -238,7 +301,9 @@ fn ground(random: &mut Random, arities: &[u32], depth: u32) -> Option<Tree> {
 /// Rows along which the tree reaches the state given back. States are given
 /// to subterms one after the other from `next` on.
 fn rows_for(tree: &Tree, states: u32, next: &mut u32, rows: &mut Vec<Vec<u32>>) -> u32 {
-    let Tree::Symbol(symbol, under) = tree else { return 0 };
+    let Tree::Symbol(symbol, under) = tree else {
+        return 0;
+    };
     let mut row = vec![*symbol];
     for one in under {
         row.push(rows_for(one, states, next, rows));
@@ -252,7 +317,9 @@ fn rows_for(tree: &Tree, states: u32, next: &mut u32, rows: &mut Vec<Vec<u32>>) 
 
 /// Another tree of the same shape: one symbol replaced by one of its arity.
 fn varied(random: &mut Random, tree: &Tree, arities: &[u32]) -> Tree {
-    let Tree::Symbol(symbol, under) = tree else { return tree.clone() };
+    let Tree::Symbol(symbol, under) = tree else {
+        return tree.clone();
+    };
     let mut under = under.clone();
     if !under.is_empty() && random.chance(70) {
         let place = random.below(under.len());
@@ -260,8 +327,9 @@ fn varied(random: &mut Random, tree: &Tree, arities: &[u32]) -> Tree {
         return Tree::Symbol(*symbol, under);
     }
     let arity = arities[*symbol as usize];
-    let alike: Vec<u32> =
-        (0..arities.len() as u32).filter(|&n| arities[n as usize] == arity).collect();
+    let alike: Vec<u32> = (0..arities.len() as u32)
+        .filter(|&n| arities[n as usize] == arity)
+        .collect();
     Tree::Symbol(*random.pick(&alike), under)
 }
 
@@ -270,12 +338,18 @@ fn varied(random: &mut Random, tree: &Tree, arities: &[u32]) -> Tree {
 /// needs several rounds. Marks both tops final now and then.
 fn plant(random: &mut Random, model: &mut Model) {
     let depth = random.between(1, 4);
-    let Some(tree) = ground(random, &model.arities, depth) else { return };
+    let Some(tree) = ground(random, &model.arities, depth) else {
+        return;
+    };
     if tree.tokens() > 30 {
         return;
     }
     let same = random.chance(60);
-    let other = if same { tree.clone() } else { varied(random, &tree, &model.arities) };
+    let other = if same {
+        tree.clone()
+    } else {
+        varied(random, &tree, &model.arities)
+    };
     let alike = random.chance(80);
     let mut tops = Vec::new();
     for (side, tree) in [(&mut model.a, &tree), (&mut model.b, &other)] {
@@ -307,14 +381,20 @@ fn plant(random: &mut Random, model: &mut Model) {
 /// tree or none. Now and then two of the new states are merged.
 fn plant_apart(random: &mut Random, model: &mut Model) {
     let depth = random.between(2, 5);
-    let Some(tree) = ground(random, &model.arities, depth) else { return };
+    let Some(tree) = ground(random, &model.arities, depth) else {
+        return;
+    };
     let new = tree.tokens() as u32;
     let room = 32 - model.a.states.max(model.b.states);
     if new > room || model.a.rows.len().max(model.b.rows.len()) > 90 {
         return;
     }
     let same = random.chance(45);
-    let other = if same { tree.clone() } else { varied(random, &tree, &model.arities) };
+    let other = if same {
+        tree.clone()
+    } else {
+        varied(random, &tree, &model.arities)
+    };
     for (side, tree) in [(&mut model.a, &tree), (&mut model.b, &other)] {
         let mut next = side.states;
         side.states += new;
@@ -343,7 +423,10 @@ fn mark(side: &mut Side, state: u32) {
 
 /// How many variables a rule may have at most.
 fn most_variables(random: &mut Random, classes: u32, substitutions: u64) -> u32 {
-    let most = (0..=4).rev().find(|&v| u64::from(classes).pow(v) <= substitutions).unwrap_or(0);
+    let most = (0..=4)
+        .rev()
+        .find(|&v| u64::from(classes).pow(v) <= substitutions)
+        .unwrap_or(0);
     if random.chance(50) {
         most
     } else {
@@ -401,7 +484,13 @@ fn left_side(
         .collect();
     let (symbol, arguments): (u32, Vec<Option<u32>>) = if !fitting.is_empty() && random.chance(92) {
         let row = random.pick(&fitting);
-        (row[0], row[1..row.len() - 1].iter().map(|&state| Some(class_of(state))).collect())
+        (
+            row[0],
+            row[1..row.len() - 1]
+                .iter()
+                .map(|&state| Some(class_of(state)))
+                .collect(),
+        )
     } else {
         let symbol = random.below(model.arities.len());
         (symbol as u32, vec![None; model.arities[symbol] as usize])
@@ -442,7 +531,10 @@ fn with_variables(random: &mut Random, tree: &Tree, variables: u32) -> Tree {
     match tree {
         Tree::Variable(_) => Tree::Variable(random.below(variables as usize) as u32),
         Tree::Symbol(symbol, under) => {
-            let under = under.iter().map(|one| with_variables(random, one, variables)).collect();
+            let under = under
+                .iter()
+                .map(|one| with_variables(random, one, variables))
+                .collect();
             Tree::Symbol(*symbol, under)
         }
     }
@@ -520,8 +612,11 @@ fn make_unsuitable(random: &mut Random, model: &mut Model) {
             model.a.finals.clear();
             model.b.finals.clear();
         }
-        let (class, bad) =
-            if random.chance(50) { *pairs.last().unwrap() } else { *random.pick(&pairs) };
+        let (class, bad) = if random.chance(50) {
+            *pairs.last().unwrap()
+        } else {
+            *random.pick(&pairs)
+        };
         let members: Vec<u32> = (0..model.a.states)
             .filter(|&state| model.merge[state as usize] == class)
             .collect();
@@ -549,7 +644,9 @@ fn any_budget(random: &mut Random, total: u64) -> u64 {
 /// help, the rule is given its left side as right side.
 fn complete(random: &mut Random, model: &mut Model) {
     for _ in 0..90 {
-        let Verdict::Critical(critical) = search_only(model) else { return };
+        let Verdict::Critical(critical) = search_only(model) else {
+            return;
+        };
         let (left, right) = model.rules[critical.rule].clone();
         let hopeless = matches!(right, Tree::Variable(_)) || random.chance(4);
         if hopeless || model.a.rows.len() > 100 {
@@ -576,15 +673,22 @@ fn reach(
         Tree::Variable(variable) => return u32::from(substitution[*variable as usize]),
         Tree::Symbol(symbol, under) => (*symbol, under),
     };
-    let arguments: Vec<u32> =
-        under.iter().map(|one| reach(random, model, one, substitution, None)).collect();
+    let arguments: Vec<u32> = under
+        .iter()
+        .map(|one| reach(random, model, one, substitution, None))
+        .collect();
     let class_of = |state: u32| model.merge[state as usize];
     let fitting: Vec<u32> = model
         .a
         .rows
         .iter()
         .filter(|row| row[0] == symbol)
-        .filter(|row| row[1..row.len() - 1].iter().map(|&s| class_of(s)).eq(arguments.iter().copied()))
+        .filter(|row| {
+            row[1..row.len() - 1]
+                .iter()
+                .map(|&s| class_of(s))
+                .eq(arguments.iter().copied())
+        })
         .map(|row| class_of(row[row.len() - 1]))
         .collect();
     match wished {
@@ -595,8 +699,9 @@ fn reach(
     let target = wished.unwrap_or_else(|| random.below(model.classes() as usize) as u32);
     let mut row = vec![symbol];
     for class in arguments.iter().chain([&target]) {
-        let members: Vec<u32> =
-            (0..model.a.states).filter(|&state| class_of(state) == *class).collect();
+        let members: Vec<u32> = (0..model.a.states)
+            .filter(|&state| class_of(state) == *class)
+            .collect();
         row.push(*random.pick(&members));
     }
     let place = random.below(model.a.rows.len() + 1);
@@ -648,7 +753,9 @@ fn spoil(random: &mut Random, model: &mut Model) {
         _ => {
             complete(random, model);
             for _ in 0..8 {
-                let Some(rule) = rule(random, model, 300) else { continue };
+                let Some(rule) = rule(random, model, 300) else {
+                    continue;
+                };
                 if model.rules.len() >= 32 {
                     break;
                 }
@@ -669,15 +776,27 @@ fn spoil(random: &mut Random, model: &mut Model) {
 /// chosen beforehand, mostly a late one of three or four variables.
 fn spoil_late(random: &mut Random, model: &mut Model) {
     let classes = model.classes();
-    let most = (0..=4).rev().find(|&v| u64::from(classes).pow(v) <= 11_000).unwrap_or(0);
-    let variables = if random.chance(75) { most } else { random.between(0, most) };
-    let Some(left) = linear(random, &model.arities, variables) else { return };
+    let most = (0..=4)
+        .rev()
+        .find(|&v| u64::from(classes).pow(v) <= 11_000)
+        .unwrap_or(0);
+    let variables = if random.chance(75) {
+        most
+    } else {
+        random.between(0, most)
+    };
+    let Some(left) = linear(random, &model.arities, variables) else {
+        return;
+    };
     if left.tokens() > 24 || model.rules.len() >= 32 {
         return;
     }
     let substitution: Vec<u8> = (0..variables)
         .map(|_| {
-            let (one, other) = (random.below(classes as usize), random.below(classes as usize));
+            let (one, other) = (
+                random.below(classes as usize),
+                random.below(classes as usize),
+            );
             one.max(other) as u8
         })
         .collect();
@@ -698,7 +817,9 @@ fn spoil_late(random: &mut Random, model: &mut Model) {
 /// symbol until one term is left.
 fn linear(random: &mut Random, arities: &[u32], variables: u32) -> Option<Tree> {
     let symbols = |arity: u32| -> Vec<u32> {
-        (0..arities.len() as u32).filter(|&n| arities[n as usize] == arity).collect()
+        (0..arities.len() as u32)
+            .filter(|&n| arities[n as usize] == arity)
+            .collect()
     };
     let mut row: Vec<Tree> = (0..variables).map(Tree::Variable).collect();
     for step in 0..12 {
@@ -727,15 +848,22 @@ fn linear(random: &mut Random, arities: &[u32], variables: u32) -> Option<Tree> 
 
 fn make_critical(random: &mut Random, model: &mut Model) {
     spoil(random, model);
-    let Verdict::Critical(critical) = search_only(model) else { return };
-    let total = model.total().min(u64::from(LARGEST_BUDGET) / 2);
-    model.budget = match random.below(6) {
-        0 | 1 => critical.place,
-        2 => critical.place + 1,
+    let Verdict::Critical(critical) = search_only(model) else {
+        return;
+    };
+    model.budget = critical_budget(random, critical.place, model.total());
+}
+
+/// A budget with which the pair at this place is met.
+fn critical_budget(random: &mut Random, place: u64, total: u64) -> u64 {
+    match random.below(6) {
+        0 | 1 => place,
+        2 => place + 1,
         3 => total,
         4 => u64::from(LARGEST_BUDGET),
-        _ => critical.place + random.below(total as usize + 1) as u64,
-    };
+        _ => place + random.below((total - place) as usize + 1) as u64,
+    }
+    .min(u64::from(LARGEST_BUDGET))
 }
 
 fn make_stopped(random: &mut Random, model: &mut Model) {

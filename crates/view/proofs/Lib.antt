@@ -1,0 +1,3 @@
+pub mod PaperLines
+pub mod HeadingLaws
+pub mod Apart
