@@ -1,5 +1,9 @@
 //! Whole certificates through the public operation, beside the reference, in one run: answers are compared, times are the best of several
-//! runs of each in turn, by processor time, and the ratio is the checker's time over the reference's.
+//! runs of each in turn, by processor time, and the ratio is the checker's time over the reference's. The last column is its time over that of
+//! the same algorithm in Rust, which is given the tables and only searches.
+mod same;
+
+use same::Case;
 use std::hint::black_box;
 use std::path::PathBuf;
 
@@ -20,8 +24,9 @@ fn processor_time() -> f64 {
     time.seconds as f64 + time.nanoseconds as f64 * 1e-9
 }
 
-/// Runs both on the files, and prints times, their ratio and, where substitutions were examined, the time for each of them.
-fn compare(name: &str, files: &[Vec<u8>], rounds: usize) {
+/// Runs both on the files, and prints times, their ratio and, where substitutions were examined, the time for each of them. Where a case is
+/// given, the search by the same algorithm is run beside them too.
+fn compare(name: &str, files: &[Vec<u8>], rounds: usize, case: Option<&Case>) {
     let mut examined = 0u64;
     for file in files {
         let ours = mergecheck::answer(file);
@@ -30,7 +35,10 @@ fn compare(name: &str, files: &[Vec<u8>], rounds: usize) {
         let last = ours.trim_end().rsplit('=').next().unwrap();
         examined += last.parse::<u64>().unwrap_or(0);
     }
-    let (mut checker, mut other) = (f64::MAX, f64::MAX);
+    if let Some(case) = case {
+        assert_eq!(case.search(), examined, "{name}: the counts differ");
+    }
+    let (mut checker, mut other, mut alike) = (f64::MAX, f64::MAX, f64::MAX);
     for _ in 0..7 {
         let start = processor_time();
         for _ in 0..rounds {
@@ -47,10 +55,16 @@ fn compare(name: &str, files: &[Vec<u8>], rounds: usize) {
             }
         }
         other = other.min((processor_time() - start) / rounds as f64);
+        if let Some(case) = case {
+            let start = processor_time();
+            black_box(black_box(case).search());
+            alike = alike.min(processor_time() - start);
+        }
     }
     let per = |time: f64| if examined > 0 { format!("{:.3}", time * 1e9 / examined as f64) } else { "-".into() };
+    let ratio = if case.is_some() { format!("{:.2}", checker / alike) } else { "-".into() };
     println!(
-        "{name:<44} {examined:>10} {:>12.3} {:>12.3} {:>9} {:>9} {:>6.2}",
+        "{name:<44} {examined:>10} {:>12.3} {:>12.3} {:>9} {:>9} {:>6.2} {ratio:>6}",
         checker * 1e3,
         other * 1e3,
         per(checker),
@@ -86,6 +100,12 @@ impl Numbers {
     }
 }
 
+/// A certificate made from its parts, beside the same algorithm.
+fn both(name: &str, arities: &[u8], rows: &[Vec<u8>], side: &str, n: usize, budget: u32) {
+    let case = Case::new(arities, rows, side, n, 32, budget);
+    compare(name, &[certificate(arities, rows, side, n, budget)], 1, Some(&case));
+}
+
 fn example(name: &str) -> Vec<u8> {
     let path = PathBuf::from(env!("CARGO_MANIFEST_DIR")).join("../examples").join(name);
     std::fs::read(&path).unwrap_or_else(|e| panic!("{}: {e}", path.display()))
@@ -106,10 +126,10 @@ fn corpus() -> Vec<Vec<u8>> {
 
 fn main() {
     const LARGEST: u32 = 33_554_432;
-    println!("{:<44} {:>10} {:>12} {:>12} {:>9} {:>9} {:>6}", "", "examined", "checker, ms", "reference", "ns each", "ns each", "ratio");
-    compare("the document's example, 207 bytes", &[example("K1.cert")], 2000);
-    compare("the call-frame example, 366 bytes", &[example("frames-accepted.cert")], 2000);
-    compare("the corpus of trials", &corpus(), 1);
+    println!("{:<44} {:>10} {:>12} {:>12} {:>9} {:>9} {:>6} {:>6}", "", "examined", "checker, ms", "reference", "ns each", "ns each", "ratio", "same");
+    compare("the document's example, 207 bytes", &[example("K1.cert")], 2000, None);
+    compare("the call-frame example, 366 bytes", &[example("frames-accepted.cert")], 2000, None);
+    compare("the corpus of trials", &corpus(), 1, None);
 
     // Dense: symbol 1 takes every class to one of four, and symbol 3 any two of those four to one of them, so no left side is ever empty.
     let arities = [0, 1, 1, 2, 2, 3, 3, 0];
@@ -132,11 +152,11 @@ fn main() {
     }
     let short = "1,3,1,x0,3,1,x1,3,1,x2,1,x3";
     let long = "1,2,1,3,1,2,1,x0,3,1,2,2,x1,3,2,1,1,x2,1,2,1,2,1,x3";
-    compare("dense, 12 tokens a side, one rule", &[certificate(&arities, &rows, short, 1, LARGEST)], 1);
-    compare("dense, 24 tokens a side, one rule", &[certificate(&arities, &rows, long, 1, LARGEST)], 1);
-    compare("dense, 12 tokens a side, largest total", &[certificate(&arities, &rows, short, 32, LARGEST)], 1);
-    compare("dense, 24 tokens a side, largest total", &[certificate(&arities, &rows, long, 32, LARGEST)], 1);
-    compare("the same, stopped inside a block", &[certificate(&arities, &rows, long, 32, LARGEST - 1)], 1);
+    both("dense, 12 tokens a side, one rule", &arities, &rows, short, 1, LARGEST);
+    both("dense, 24 tokens a side, one rule", &arities, &rows, long, 1, LARGEST);
+    both("dense, 12 tokens a side, largest total", &arities, &rows, short, 32, LARGEST);
+    both("dense, 24 tokens a side, largest total", &arities, &rows, long, 32, LARGEST);
+    both("the same, stopped inside a block", &arities, &rows, long, 32, LARGEST - 1);
 
     // The heaviest: all 128 rows are one binary symbol's, on both sides of every rule.
     let mut heavy: Vec<Vec<u8>> = Vec::new();
@@ -145,7 +165,7 @@ fn main() {
             heavy.push(vec![3, i, (i + j) % 32, (i * 3 + j) % 32]);
         }
     }
-    compare("128 rows of one binary symbol, one rule", &[certificate(&arities, &heavy, "3,3,x0,x1,3,x2,x3", 1, LARGEST)], 1);
+    both("128 rows of one binary symbol, one rule", &arities, &heavy, "3,3,x0,x1,3,x2,x3", 1, LARGEST);
 
     // Sparse: each symbol has four transitions, so most prefixes are dead.
     let mut sparse: Vec<Vec<u8>> = Vec::new();
@@ -158,7 +178,7 @@ fn main() {
             sparse.push(row);
         }
     }
-    compare("sparse, 12 tokens a side, largest total", &[certificate(&arities, &sparse, short, 32, LARGEST)], 1);
+    both("sparse, 12 tokens a side, largest total", &arities, &sparse, short, 32, LARGEST);
 
     // A quarter of the classes is alive at each depth.
     let mut quarter: Vec<Vec<u8>> = Vec::new();
@@ -169,5 +189,5 @@ fn main() {
     for i in 0..32 {
         quarter.push(vec![3, 0, i, 0]);
     }
-    compare("a quarter alive at each depth, largest total", &[certificate(&arities, &quarter, short, 32, LARGEST)], 1);
+    both("a quarter alive at each depth, largest total", &arities, &quarter, short, 32, LARGEST);
 }
