@@ -17,3 +17,4 @@ pub mod Spelling
 pub mod Complete
 pub mod Distinct
 pub mod Told
+pub mod Partition

@@ -13,4 +13,5 @@ pub mod Answer
 pub mod Contract
 pub mod Known
 pub mod WellFormed
+pub mod Partition
 pub mod Spelling
