@@ -167,6 +167,18 @@ fn main() {
     }
     both("128 rows of one binary symbol, one rule", &arities, &heavy, "3,3,x0,x1,3,x2,x3", 1, LARGEST);
 
+    // Dense and heavy: every symbol of a side but the constant 7 is the one with 127 rows, and no left side is ever empty.
+    let mut full: Vec<Vec<u8>> = vec![vec![7, 0]];
+    for i in 0..32 {
+        full.push(vec![3, i, 0, 0]);
+    }
+    for i in 0..95u8 {
+        full.push(vec![3, i % 32, 1 + i / 32, (i.wrapping_mul(5)) % 32]);
+    }
+    let wide = "3,3,3,3,x0,7,7,3,3,x1,7,7,3,3,3,x2,7,7,3,3,x3,7,7";
+    both("dense, one symbol of 127 rows, one rule", &arities, &full, wide, 1, LARGEST);
+    both("dense, one symbol of 127 rows, largest total", &arities, &full, wide, 32, LARGEST);
+
     // Sparse: each symbol has four transitions, so most prefixes are dead.
     let mut sparse: Vec<Vec<u8>> = Vec::new();
     for f in 0..8u8 {
