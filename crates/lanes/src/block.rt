@@ -18,7 +18,7 @@ ghost use Rattle.values.specs.Sets.{spanned};
 ghost use Rattle.values.specs.Lanes.{lane, Blank, setsOf};
 ghost use Rattle.values.specs.Standing.{Spells, Stands};
 ghost use Rattle.lanes.specs.Prefixes.{codesOf};
-ghost use Rattle.lanes.specs.Blocks.{Spelled, Alive, Block};
+ghost use Rattle.lanes.specs.Blocks.{Spelled, Alive, Suspected, Block};
 ghost use Rattle.lanes.specs.Automaton.{automatonOf};
 
 const ALL: u64 = 18446744073709551615;
@@ -49,11 +49,25 @@ fn side<'a>(
     let c2 = code(own, later, 2, x2);
     let c3 = code(own, later, 3, 0);
     let codes = [c0, c1, c2, c3];
-    value(words, heads, arities, symbols, &codes, tokens, at, out);
+    let ends = [0u8; 24];
+    let sets = [0u64; 24];
+    value(
+        words,
+        heads,
+        arities,
+        symbols,
+        &codes,
+        tokens,
+        at,
+        &ends,
+        &sets,
+        at,
+        out,
+    );
 }
 
 // The lanes in which some class is.
-fn any(m: &[u64; 64]) -> u64
+pub fn any(m: &[u64; 64]) -> u64
     ensures { λ r. ⌜ ((j : ℕ) → mem r j ≡ false → (q : ℕ) → q < 64 → lane j (now (m .entry)) q ≡ false) ⌝ }
 {
     let mut all: u64 = 0;
@@ -66,7 +80,7 @@ fn any(m: &[u64; 64]) -> u64
 }
 
 // The lanes in which some class is in l and not in r.
-fn any_less<'a>(l: &'a [u64; 64], r: &'a [u64; 64]) -> u64
+pub fn any_less<'a>(l: &'a [u64; 64], r: &'a [u64; 64]) -> u64
     ensures { λ z. ⌜ ((j : ℕ) → mem z j ≡ false → (q : ℕ) → q < 64 → less (lane j (now (l .entry))) (lane j (now (r .entry))) q ≡ false) ⌝ }
 {
     let mut all: u64 = 0;
@@ -124,7 +138,7 @@ pub fn alive<'a>(
     any(&m)
 }
 
-// Both sides of a rule in all lanes, and whether some lane has a critical class. The right side is valued only where the left has a class; neither is where the class x2 is not alive.
+// Both sides of a rule in all lanes, and whether some lane has a critical class. The right side is valued only where the left has a class; neither is where the class x2 is not suspected.
 pub fn block<'a>(
     words: &'a [u64; 128],
     heads: &'a [u8; 65],
@@ -133,7 +147,7 @@ pub fn block<'a>(
     tokens: &'a [u8; 1536],
     at: usize,
     v: u8,
-    live: u64,
+    suspects: u64,
     x0: u64,
     x1: u64,
     x2: u64,
@@ -141,9 +155,9 @@ pub fn block<'a>(
     r: &mut [u64; 64],
 ) -> bool
     requires { ⌜ Indexed (now words) (now heads) × ((f : ℕ) → getD (take symbols (now arities)) f 0 ≤ 3) × Stands (take symbols (now arities)) (now tokens) at × Stands (take symbols (now arities)) (now tokens) (at + 24) × (v ≤ 4) × (x0 < 64) × (x1 < 64) × (x2 < 64) × Blank (now l) × Blank (now r) ⌝ }
-    ensures { λ z. ⌜ ((k : ℕ) (rule : Rule) → k ≤ 64 → Spelled (take symbols (now (arities .entry))) (now (tokens .entry)) at rule → Alive (automatonOf (take symbols (now (arities .entry))) (now (words .entry)) (now (heads .entry)) k) rule v 2 x0 x1 live → Block (automatonOf (take symbols (now (arities .entry))) (now (words .entry)) (now (heads .entry)) k) rule v x0 x1 x2 (now (l .exit)) (now (r .exit)) z) ⌝ }
+    ensures { λ z. ⌜ ((k : ℕ) (rule : Rule) → k ≤ 64 → x2 < k → Spelled (take symbols (now (arities .entry))) (now (tokens .entry)) at rule → Suspected (automatonOf (take symbols (now (arities .entry))) (now (words .entry)) (now (heads .entry)) k) rule v x0 x1 suspects → Block (automatonOf (take symbols (now (arities .entry))) (now (words .entry)) (now (heads .entry)) k) rule v x0 x1 x2 (now (l .exit)) (now (r .exit)) z) ⌝ }
 {
-    if has(live, x2) {
+    if has(suspects, x2) {
         let own = last(v);
         side(
             words,

@@ -1,7 +1,8 @@
-// The search for the first critical pair: all classes of a rule's last variable at once, and prefixes under which the left side has no class passed over whole.
+// The search for the first critical pair: all classes of a rule's last variable at once, prefixes under which the left side has no class passed over whole, and of the third of four variables only those classes looked at with which there is a critical pair.
 use lanes::block::alive;
 use lanes::block::block;
 use lanes::block::critical;
+use lanes::halves::suspects;
 use lanes::prefixes::left;
 use lanes::prefixes::pair;
 use lanes::prefixes::power;
@@ -78,7 +79,7 @@ pub fn search<'a>(
                 let mut x1: u64 = 0;
                 'second: while x1 < m1 {
                     if has(live1, x1) {
-                        let live2 = alive(
+                        let suspected = suspects(
                             words,
                             heads,
                             arities,
@@ -86,7 +87,7 @@ pub fn search<'a>(
                             &rules.tokens,
                             at,
                             v,
-                            2,
+                            k,
                             x0,
                             x1,
                         );
@@ -102,7 +103,7 @@ pub fn search<'a>(
                                 &rules.tokens,
                                 at,
                                 v,
-                                live2,
+                                suspected,
                                 x0,
                                 x1,
                                 x2,

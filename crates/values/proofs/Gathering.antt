@@ -1,6 +1,6 @@
 -- Words gathered one after the other.
 use mathlib.Core.Path.{_≡_, refl, sym, ap, ap₂, _∙_, fun-ext}
-use mathlib.Core.Bool.{Bool, true, false, cond, _&&_, _||_, or-false}
+use mathlib.Core.Bool.{Bool, true, false, _&&_, _||_, or-false}
 use mathlib.Core.List.{List, [], _∷_, map}
 use Prim.Native.Nat.{ℕ, zero, suc, _+_, _-_, _≤_, _<_}
 use native.Mathlib.Nat.{add-zero, zero-add}
@@ -9,15 +9,15 @@ use native.Mathlib.Omega.{arith}
 use lib.Bits.{bitAnd, bitOr}
 use lib.Dec.{eqb}
 use lib.ListN.{length, getD, set, take}
-use borrow.Author.Tests.{eq-eqb, ne-eqb, eqb-true}
+use borrow.Author.Tests.{eq-eqb, ne-eqb}
 use Rattle.theory.specs.Lists.{countFrom, some}
 use Rattle.sets.specs.Sets.{Set, mem}
-use Rattle.sets.proofs.Laws.{mem-or, mem-and}
+use Rattle.sets.proofs.Laws.{mem-and}
 use Rattle.woven.specs.Woven.{part, moveOf, wovenMoves, Indexed}
 use Rattle.woven.proofs.Indexing.{none-before, none-after, within}
 use Rattle.values.specs.Sets.{drawn, fires, gathered}
 use Rattle.values.specs.Lanes.{lane, Blank}
-use Rattle.values.proofs.Matrix.{lane-put, blank-lane}
+use Rattle.values.proofs.Matrix.{blank-lane, held, held-put, held-more}
 
 or-assoc : (a b c : Bool) → (a || (b || c)) ≡ ((a || b) || c)
 or-assoc true b c = refl
@@ -67,43 +67,31 @@ module _ (arities words : List ℕ) (f : ℕ) (ss : List Set) where
     pub gather-end : (i : ℕ) → i ≡ getD heads (f + 1) 0 → upTo i ≡ upTo (getD heads 64 0)
     gather-end i e = sym (skipped i (getD heads 64 0) (omega (arith, within words heads d f hf)) (λ r lo hi. none-after words heads d f hf r (omega arith) hi))
 
-  joined : (old x hit : Bool) → cond hit (old || x) old ≡ (old || (hit && x))
-  joined true x true = refl
-  joined true x false = refl
-  joined false x true = refl
-  joined false x false = refl
+  abbrev target : ℕ → ℕ
+  target i = part (getD words i 0) 3
 
-  same-row : (m : List ℕ) (t q : ℕ) (w : Bool) (j : ℕ) → cond (eqb t q) (lane j m t || w) (lane j m q) ≡ cond (eqb t q) (lane j m q || w) (lane j m q)
-  same-row m t q w j = go (eqb t q) refl
-    where
-      go : (b : Bool) → eqb t q ≡ b → cond b (lane j m t || w) (lane j m q) ≡ cond b (lane j m q || w) (lane j m q)
-      go true e = ap (λ n. lane j m n || w) (eqb-true t q e)
-      go false e = refl
+  -- As many as the symbol g has.
+  abbrev arguments : ℕ → ℕ → List ℕ
+  arguments i g = take (getD arities g 0) (part (getD words i 0) 0 ∷ (part (getD words i 0) 1 ∷ (part (getD words i 0) 2 ∷ [])))
 
-  -- One word of f more: its target gets the lanes in which its arguments are.
-  pub word-more : (i : ℕ) (m : List ℕ) (x j : ℕ) → part (getD words i 0) 4 ≡ f
-      → mem x j ≡ drawn ss (take (getD arities f 0) (part (getD words i 0) 0 ∷ (part (getD words i 0) 1 ∷ (part (getD words i 0) 2 ∷ []))))
-      → part (getD words i 0) 3 < length m → lane j m ≡ upTo i
-      → lane j (set m (part (getD words i 0) 3) (bitOr (getD m (part (getD words i 0) 3) 0) x)) ≡ upTo (i + 1)
-  unfolding fires moveOf
-  word-more i m x j own lanes h inv = fun-ext at
-    where
-      t : ℕ
-      t = part (getD words i 0) 3
+  -- One word of f more: its target gets the lanes x in which its arguments are.
+  module _ (i : ℕ) (m : List ℕ) (x j : ℕ) (own : part (getD words i 0) 4 ≡ f) (lanes : mem x j ≡ drawn ss (arguments i f)) where
+    word-gives : (s : Set) (q : ℕ) → s ≡ upTo i → (s q || (eqb (target i) q && mem x j)) ≡ upTo (i + 1) q
+    unfolding fires moveOf
+    word-gives s q inv =
+        ap₂ (λ a b. a || (eqb (target i) q && b)) (ap (λ (s : Set). s q) inv) lanes
+        ∙ ap (λ b. upTo i q || (b && eqb (target i) q && drawn ss (arguments i f))) (sym (eq-eqb f f refl))
+        ∙ ap (λ g. upTo i q || (eqb g f && eqb (target i) q && drawn ss (arguments i g))) (sym own)
+        ∙ sym (one-word i q)
 
-      args : ℕ → List ℕ
-      args g = take (getD arities g 0) (part (getD words i 0) 0 ∷ (part (getD words i 0) 1 ∷ (part (getD words i 0) 2 ∷ [])))
+    -- They are put into the matrix.
+    pub word-more : target i < length m → lane j m ≡ upTo i → lane j (set m (target i) (bitOr (getD m (target i) 0) x)) ≡ upTo (i + 1)
+    unfolding held
+    word-more h inv = held-put m (target i) x j h ∙ fun-ext (λ q. word-gives (lane j m) q inv)
 
-      at : (q : ℕ) → lane j (set m t (bitOr (getD m t 0) x)) q ≡ upTo (i + 1) q
-      at q =
-          lane-put m t (bitOr (getD m t 0) x) j q h
-          ∙ ap (λ b. cond (eqb t q) b (lane j m q)) (mem-or (getD m t 0) x j)
-          ∙ same-row m t q (mem x j) j
-          ∙ joined (lane j m q) (mem x j) (eqb t q)
-          ∙ ap₂ (λ s b. s || (eqb t q && b)) (ap (λ (s : Set). s q) inv) lanes
-          ∙ ap (λ b. upTo i q || (b && eqb t q && drawn ss (args f))) (sym (eq-eqb f f refl))
-          ∙ ap (λ g. upTo i q || (eqb g f && eqb t q && drawn ss (args g))) (sym own)
-          ∙ sym (one-word i q)
+    -- They are joined to the lanes y of the same target.
+    pub word-joined : (t y : ℕ) → t ≡ target i → held j m t y ≡ upTo i → held j m t (bitOr y x) ≡ upTo (i + 1)
+    word-joined t y e inv = fun-ext (λ q. held-more m t y x j q ∙ ap (λ n. held j m t y q || (eqb n q && mem x j)) e ∙ word-gives (held j m t y) q inv)
 
 -- The lanes in which the first n of three arguments are in the values.
 module _ (us vs ws : List ℕ) (a b c j : ℕ) where

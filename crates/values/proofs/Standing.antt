@@ -17,7 +17,7 @@ use Rattle.values.specs.Sets.{gathered, spanned, spannedAll}
 use Rattle.values.specs.Lanes.{lane, setsOf}
 use Rattle.values.specs.Standing.{Spells, SpellsRow, Stands, Valued}
 
-some-token : (t : Term ℕ) → 1 ≤ length (preorder t)
+pub some-token : (t : Term ℕ) → 1 ≤ length (preorder t)
 unfolding preorder
 some-token (var x) = omega arith
 some-token (node f ts) = omega arith
@@ -50,7 +50,7 @@ module _ (arities tokens : List ℕ) where
     taken-variable (var x) rest e = (let same : x ≡ getD tokens at 0 - 64 = cc in ap var same, cc)
     taken-variable (node f ts) rest e = let z : _≡_ {A = ℕ} 0 1 = cc in absurd (omega arith)
 
-    variable-here : (t : Term ℕ) (rest : List Token) → Spells arities tokens at t rest → (t ≡ var (getD tokens at 0 - 64)) × (from (at + 1) ≡ rest)
+    pub variable-here : (t : Term ℕ) (rest : List Token) → Spells arities tokens at t rest → (t ≡ var (getD tokens at 0 - 64)) × (from (at + 1) ≡ rest)
     variable-here t rest s = taken-variable t rest (ap (λ x. x ∷ from (at + 1)) (sym is-argument) ∙ sym (first-token at h) ∙ s .reads)
 
     pub variable-valued : (Δ : List Transition) (codes m : List ℕ) → ((j : ℕ) → j < 64 → lane j m ≡ setsOf codes j (getD tokens at 0 - 64)) → Valued Δ arities codes tokens at m (at + 1)
@@ -63,10 +63,10 @@ module _ (arities tokens : List ℕ) where
     }
 
   -- A symbol, and the row of its subterms.
-  record Node (at f : ℕ) (t : Term ℕ) (rest : List Token) : Type 0 where
-    row : Terms ℕ
-    same : t ≡ node f row
-    spells : SpellsRow arities tokens (at + 1) (getD arities f 0) row rest
+  pub record Node (at f : ℕ) (t : Term ℕ) (rest : List Token) : Type 0 where
+    pub row : Terms ℕ
+    pub same : t ≡ node f row
+    pub spells : SpellsRow arities tokens (at + 1) (getD arities f 0) row rest
 
   module _ (at : ℕ) (h : at < length tokens) (hs : getD tokens at 0 < 64) where
     is-function : tokenOf (getD tokens at 0) ≡ function (getD tokens at 0)
@@ -81,22 +81,22 @@ module _ (arities tokens : List ℕ) where
         let after : from (at + 1) ≡ preorderAll ts ++ rest = cc in
         record { row = ts; same = ap (λ g. node g ts) same; spells = record { ranked = rw same at r; reads = after } }
 
-    symbol-here : (t : Term ℕ) (rest : List Token) → Spells arities tokens at t rest → Node at (getD tokens at 0) t rest
+    pub symbol-here : (t : Term ℕ) (rest : List Token) → Spells arities tokens at t rest → Node at (getD tokens at 0) t rest
     symbol-here t rest s = taken-symbol rest (s .ranked) (ap (λ x. x ∷ from (at + 1)) (sym is-function) ∙ sym (first-token at h) ∙ s .reads)
 
   -- A row without terms, and the first term of a row.
-  no-terms : {ts : Terms ℕ} {n : ℕ} → RankedRow arities ts n → n ≡ 0 → ts ≡ none
+  pub no-terms : {ts : Terms ℕ} {n : ℕ} → RankedRow arities ts n → n ≡ 0 → ts ≡ none
   no-terms (nothing e) h = refl
   no-terms (another r rs e) h = absurd (omega arith)
 
-  record First (at n : ℕ) (ts : Terms ℕ) (rest : List Token) : Type 0 where
-    term : Term ℕ
-    others : Terms ℕ
-    same : ts ≡ term then others
-    spells : Spells arities tokens at term (preorderAll others ++ rest)
-    ranked : RankedRow arities others n
+  pub record First (at n : ℕ) (ts : Terms ℕ) (rest : List Token) : Type 0 where
+    pub term : Term ℕ
+    pub others : Terms ℕ
+    pub same : ts ≡ term then others
+    pub spells : Spells arities tokens at term (preorderAll others ++ rest)
+    pub ranked : RankedRow arities others n
 
-  taken-first : (at n : ℕ) {ts : Terms ℕ} {m : ℕ} (rest : List Token) → RankedRow arities ts m → m ≡ suc n → from at ≡ preorderAll ts ++ rest → First at n ts rest
+  pub taken-first : (at n : ℕ) {ts : Terms ℕ} {m : ℕ} (rest : List Token) → RankedRow arities ts m → m ≡ suc n → from at ≡ preorderAll ts ++ rest → First at n ts rest
   unfolding preorder
   taken-first at n rest (nothing e) h reads = absurd (omega arith)
   taken-first at n rest (another {t = t} {ts = ts} {k = k} r rs e) h reads =

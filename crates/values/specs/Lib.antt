@@ -1,3 +1,4 @@
 pub mod Sets
 pub mod Lanes
 pub mod Standing
+pub mod Settled

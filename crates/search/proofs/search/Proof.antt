@@ -22,7 +22,7 @@ use native.Mathlib.Omega.{arith}
 use Rattle.search.proofs.search.Statement.{statement}
 use Rattle.search.proofs.search.Tie as tie
 use Rattle.search.proofs.search.Proof.Invariants.{Inv-classes, μ-classes, Inv-lanes, μ-lanes, Inv-third, μ-third, Inv-second, μ-second, Inv-first, μ-first, Inv-search, μ-search, At}
-use Rattle.search.proofs.search.Proof.Asked.{cast-t35, mul-at, element-copy-out-v, left-requires, power-requires, left-requires-2, power-requires-2, left-requires-3, power-requires-3, tries-requires, tries-requires-2, tries-requires-3, alive-requires, has-requires, alive-requires-2, has-requires-2, alive-requires-3, block-requires, add-examined, critical-requires, pair-requires, cast-t56, add-q, classes-less, add-j, lanes-less, sub-if7, add-examined-2, add-x2, third-less, sub-if8, add-examined-3, add-x1, second-less, sub-if9, add-examined-4, add-x0, first-less, add-rule, search-less}
+use Rattle.search.proofs.search.Proof.Asked.{cast-t35, mul-at, element-copy-out-v, left-requires, power-requires, left-requires-2, power-requires-2, left-requires-3, power-requires-3, tries-requires, tries-requires-2, tries-requires-3, alive-requires, has-requires, alive-requires-2, has-requires-2, suspects-requires, block-requires, add-examined, critical-requires, pair-requires, cast-t56, add-q, classes-less, add-j, lanes-less, sub-if7, add-examined-2, add-x2, third-less, sub-if8, add-examined-3, add-x1, second-less, sub-if9, add-examined-4, add-x0, first-less, add-rule, search-less}
 
 search-holds : At tie.Need-search-holds
 unfolding automatonOf total
@@ -79,7 +79,7 @@ third-holds c =
     let at = c .before .before .before .before .before .before .second in (
       at .inv .0,
       level-start (M (take (a .symbols) (a .arities .now)) (a .words .now) (a .heads .now) (a .t5) (a .k)) (R (take (a .symbols) (a .arities .now)) (a .words .now) (a .heads .now) (a .t5) (a .k)) (getD (a .t5 .variables) rule 0) 2 rule (ruleIn (R (take (a .symbols) (a .arities .now)) (a .words .now) (a .heads .now) (a .t5) (a .k)) rule) (x0 ∷ (at .x1 ∷ [])) (a .budget) (at .examined) (level-run (M (take (a .symbols) (a .arities .now)) (a .words .now) (a .heads .now) (a .t5) (a .k)) (R (take (a .symbols) (a .arities .now)) (a .words .now) (a .heads .now) (a .t5) (a .k)) (getD (a .t5 .variables) rule 0) 1 rule (ruleIn (R (take (a .symbols) (a .arities .now)) (a .words .now) (a .heads .now) (a .t5) (a .k)) rule) (x0 ∷ []) (a .budget) _ (at .x1) (at .examined) (at .inv .1) (omega (arith, c .before .before .before .before .before .second-test .taken, at .inv .0 .m1-is))) refl (at .inv .1 .within) (at .inv .1 .clear),
-      c .alive3 .ensures (a .k) (ruleIn (R (take (a .symbols) (a .arities .now)) (a .words .now) (a .heads .now) (a .t5) (a .k)) rule) (rule-spelled (take (a .symbols) (a .arities .now)) (a .words .now) (a .heads .now) (a .t5) (a .k) (start .pre) rule (c .before .before .before .before .before .before .second .inv .0 .listed) (rule * 48) (c .before .before .before .before .before .before .second .inv .0 .is-at)),
+      c .suspects .ensures (ruleIn (R (take (a .symbols) (a .arities .now)) (a .words .now) (a .heads .now) (a .t5) (a .k)) rule) (rule-spelled (take (a .symbols) (a .arities .now)) (a .words .now) (a .heads .now) (a .t5) (a .k) (start .pre) rule (c .before .before .before .before .before .before .second .inv .0 .listed) (rule * 48) (c .before .before .before .before .before .before .second .inv .0 .is-at)),
       at .inv .3,
       omega (arith, c .before .before .before .before .before .second-test .taken, c .before .before .before .before .before .before .second .inv .0 .m1-is, choices-low (a .k) (getD (a .t5 .variables) rule 0) 1 (start .pre .some-class), start .pre .most-classes),
     )
@@ -95,8 +95,8 @@ lanes-holds c =
     let at = c .before .before .before .before .before .before .before .third in (
       at .inv .0,
       record {
-        run = block-run (take (a .symbols) (a .arities .now)) (a .words .now) (a .heads .now) (a .t5) (a .k) (start .pre) (a .budget) _ rule _ (getD (a .t5 .variables) rule 0) _ _ _ _ _ _ (at .inv .0) x0 x1 (at .x2) _ _ _ 0 (at .examined) _ (at .inv .1) (c .before .before .before .before .before .before .third-test .taken) (c .before .block .ensures (a .k) (ruleIn (R (take (a .symbols) (a .arities .now)) (a .words .now) (a .heads .now) (a .t5) (a .k)) rule) (start .pre .most-classes) (rule-spelled (take (a .symbols) (a .arities .now)) (a .words .now) (a .heads .now) (a .t5) (a .k) (start .pre) rule (c .before .before .before .before .before .before .before .third .inv .0 .listed) (rule * 48) (c .before .before .before .before .before .before .before .third .inv .0 .is-at)) (at .inv .2));
-        each = (c .before .block .ensures (a .k) (ruleIn (R (take (a .symbols) (a .arities .now)) (a .words .now) (a .heads .now) (a .t5) (a .k)) rule) (start .pre .most-classes) (rule-spelled (take (a .symbols) (a .arities .now)) (a .words .now) (a .heads .now) (a .t5) (a .k) (start .pre) rule (c .before .before .before .before .before .before .before .third .inv .0 .listed) (rule * 48) (c .before .before .before .before .before .before .before .third .inv .0 .is-at)) (at .inv .2)) .each (c .if4 .taken);
+        run = block-run (take (a .symbols) (a .arities .now)) (a .words .now) (a .heads .now) (a .t5) (a .k) (start .pre) (a .budget) _ rule _ (getD (a .t5 .variables) rule 0) _ _ _ _ _ _ (at .inv .0) x0 x1 (at .x2) _ _ _ 0 (at .examined) _ (at .inv .1) (c .before .before .before .before .before .before .third-test .taken) (c .before .block .ensures (a .k) (ruleIn (R (take (a .symbols) (a .arities .now)) (a .words .now) (a .heads .now) (a .t5) (a .k)) rule) (start .pre .most-classes) (omega (arith, c .before .before .before .before .before .before .third-test .taken, c .before .before .before .before .before .before .before .third .inv .0 .m2-is, choices-low (a .k) (getD (a .t5 .variables) rule 0) 2 (start .pre .some-class))) (rule-spelled (take (a .symbols) (a .arities .now)) (a .words .now) (a .heads .now) (a .t5) (a .k) (start .pre) rule (c .before .before .before .before .before .before .before .third .inv .0 .listed) (rule * 48) (c .before .before .before .before .before .before .before .third .inv .0 .is-at)) (at .inv .2));
+        each = (c .before .block .ensures (a .k) (ruleIn (R (take (a .symbols) (a .arities .now)) (a .words .now) (a .heads .now) (a .t5) (a .k)) rule) (start .pre .most-classes) (omega (arith, c .before .before .before .before .before .before .third-test .taken, c .before .before .before .before .before .before .before .third .inv .0 .m2-is, choices-low (a .k) (getD (a .t5 .variables) rule 0) 2 (start .pre .some-class))) (rule-spelled (take (a .symbols) (a .arities .now)) (a .words .now) (a .heads .now) (a .t5) (a .k) (start .pre) rule (c .before .before .before .before .before .before .before .third .inv .0 .listed) (rule * 48) (c .before .before .before .before .before .before .before .third .inv .0 .is-at)) (at .inv .2)) .each (c .if4 .taken);
         low0 = at .inv .3;
         low1 = at .inv .4;
         low2 = omega (arith, c .before .before .before .before .before .before .third-test .taken, c .before .before .before .before .before .before .before .third .inv .0 .m2-is, choices-low (a .k) (getD (a .t5 .variables) rule 0) 2 (start .pre .some-class), start .pre .most-classes);
@@ -139,7 +139,7 @@ third-again c =
       at .inv .0,
       ⊎-elim
           (λ w. next (c .if4 .examined) (omega (arith, w .3, w .1 .inv .1 .place, w .1 .inv .1 .upto, w .2 .left, at .inv .0 .lanes-are)) (omega (arith, w .3, w .1 .inv .1 .within)) (subst (Clear (M (take (a .symbols) (a .arities .now)) (a .words .now) (a .heads .now) (a .t5) (a .k)) (R (take (a .symbols) (a .arities .now)) (a .words .now) (a .heads .now) (a .t5) (a .k))) (sym (w .3)) (w .1 .inv .1 .clear)))
-          (λ w. next (c .if4 .examined) (omega (arith, w .2, at .inv .0 .lanes-are)) (omega (arith, w .2, w .1 .left, at .inv .1 .within, at .inv .0 .is-most)) (subst (Clear (M (take (a .symbols) (a .arities .now)) (a .words .now) (a .heads .now) (a .t5) (a .k)) (R (take (a .symbols) (a .arities .now)) (a .words .now) (a .heads .now) (a .t5) (a .k))) (sym (w .2)) (block-clear (take (a .symbols) (a .arities .now)) (a .words .now) (a .heads .now) (a .t5) (a .k) (start .pre) (a .budget) _ rule _ (getD (a .t5 .variables) rule 0) _ _ _ _ _ _ (at .inv .0) x0 x1 (at .x2) _ _ _ 0 (at .examined) _ (at .inv .1) (c .before .before .before .before .before .before .third-test .taken) (c .before .block .ensures (a .k) (ruleIn (R (take (a .symbols) (a .arities .now)) (a .words .now) (a .heads .now) (a .t5) (a .k)) rule) (start .pre .most-classes) (rule-spelled (take (a .symbols) (a .arities .now)) (a .words .now) (a .heads .now) (a .t5) (a .k) (start .pre) rule (c .before .before .before .before .before .before .before .third .inv .0 .listed) (rule * 48) (c .before .before .before .before .before .before .before .third .inv .0 .is-at)) (at .inv .2)) (w .0 .left))))
+          (λ w. next (c .if4 .examined) (omega (arith, w .2, at .inv .0 .lanes-are)) (omega (arith, w .2, w .1 .left, at .inv .1 .within, at .inv .0 .is-most)) (subst (Clear (M (take (a .symbols) (a .arities .now)) (a .words .now) (a .heads .now) (a .t5) (a .k)) (R (take (a .symbols) (a .arities .now)) (a .words .now) (a .heads .now) (a .t5) (a .k))) (sym (w .2)) (block-clear (take (a .symbols) (a .arities .now)) (a .words .now) (a .heads .now) (a .t5) (a .k) (start .pre) (a .budget) _ rule _ (getD (a .t5 .variables) rule 0) _ _ _ _ _ _ (at .inv .0) x0 x1 (at .x2) _ _ _ 0 (at .examined) _ (at .inv .1) (c .before .before .before .before .before .before .third-test .taken) (c .before .block .ensures (a .k) (ruleIn (R (take (a .symbols) (a .arities .now)) (a .words .now) (a .heads .now) (a .t5) (a .k)) rule) (start .pre .most-classes) (omega (arith, c .before .before .before .before .before .before .third-test .taken, c .before .before .before .before .before .before .before .third .inv .0 .m2-is, choices-low (a .k) (getD (a .t5 .variables) rule 0) 2 (start .pre .some-class))) (rule-spelled (take (a .symbols) (a .arities .now)) (a .words .now) (a .heads .now) (a .t5) (a .k) (start .pre) rule (c .before .before .before .before .before .before .before .third .inv .0 .listed) (rule * 48) (c .before .before .before .before .before .before .before .third .inv .0 .is-at)) (at .inv .2)) (w .0 .left))))
           (c .if4 .came),
       at .inv .2,
       at .inv .3,
@@ -243,7 +243,7 @@ returns-4 c =
     let x0 = c .before .before .before .before .before .before .before .before .before .before .before .before .before .before .before .before .before .before .before .before .before .before .first .x0 in
     let x1 = c .before .before .before .before .before .before .before .before .before .before .before .before .before .before .before .second .x1 in
     let at = c .before .before .before .before .before .before .before .before .third in
-    judged (M (take (a .symbols) (a .arities .now)) (a .words .now) (a .heads .now) (a .t5) (a .k)) (R (take (a .symbols) (a .arities .now)) (a .words .now) (a .heads .now) (a .t5) (a .k)) (start .pre .in-range) (start .pre .shaped) (a .budget) (stopped (a .budget)) (block-stop (take (a .symbols) (a .arities .now)) (a .words .now) (a .heads .now) (a .t5) (a .k) (start .pre) (a .budget) _ rule _ (getD (a .t5 .variables) rule 0) _ _ _ _ _ _ (at .inv .0) x0 x1 (at .x2) _ _ _ 0 (at .examined) _ (at .inv .1) (c .before .before .before .before .before .before .before .third-test .taken) (c .before .before .block .ensures (a .k) (ruleIn (R (take (a .symbols) (a .arities .now)) (a .words .now) (a .heads .now) (a .t5) (a .k)) rule) (start .pre .most-classes) (rule-spelled (take (a .symbols) (a .arities .now)) (a .words .now) (a .heads .now) (a .t5) (a .k) (start .pre) rule (c .before .before .before .before .before .before .before .before .third .inv .0 .listed) (rule * 48) (c .before .before .before .before .before .before .before .before .third .inv .0 .is-at)) (at .inv .2)) (c .before .if4 .left) (c .if7 .taken))
+    judged (M (take (a .symbols) (a .arities .now)) (a .words .now) (a .heads .now) (a .t5) (a .k)) (R (take (a .symbols) (a .arities .now)) (a .words .now) (a .heads .now) (a .t5) (a .k)) (start .pre .in-range) (start .pre .shaped) (a .budget) (stopped (a .budget)) (block-stop (take (a .symbols) (a .arities .now)) (a .words .now) (a .heads .now) (a .t5) (a .k) (start .pre) (a .budget) _ rule _ (getD (a .t5 .variables) rule 0) _ _ _ _ _ _ (at .inv .0) x0 x1 (at .x2) _ _ _ 0 (at .examined) _ (at .inv .1) (c .before .before .before .before .before .before .before .third-test .taken) (c .before .before .block .ensures (a .k) (ruleIn (R (take (a .symbols) (a .arities .now)) (a .words .now) (a .heads .now) (a .t5) (a .k)) rule) (start .pre .most-classes) (omega (arith, c .before .before .before .before .before .before .before .third-test .taken, c .before .before .before .before .before .before .before .before .third .inv .0 .m2-is, choices-low (a .k) (getD (a .t5 .variables) rule 0) 2 (start .pre .some-class))) (rule-spelled (take (a .symbols) (a .arities .now)) (a .words .now) (a .heads .now) (a .t5) (a .k) (start .pre) rule (c .before .before .before .before .before .before .before .before .third .inv .0 .listed) (rule * 48) (c .before .before .before .before .before .before .before .before .third .inv .0 .is-at)) (at .inv .2)) (c .before .if4 .left) (c .if7 .taken))
 
 returns-5 : At tie.Need-returns-5
 unfolding automatonOf said
@@ -299,7 +299,7 @@ search-spec =
     alive-requires-2
     second-holds
     has-requires-2
-    alive-requires-3
+    suspects-requires
     third-holds
     block-requires
     lanes-holds

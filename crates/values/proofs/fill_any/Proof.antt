@@ -46,7 +46,7 @@ loop-again c =
 
 -- src/lib.rt:121:1
 returns : tie.Need-returns Inv-loop μ-loop
-returns c = λ x j hx hj. any-is (c .before .loop .out) (c .before .loop .q) x j (omega (arith, c .before .loop .inv .0, c .loop-test .left)) hx hj (c .before .loop .inv .2)
+returns c = λ j hj. any-is (c .before .loop .out) (c .before .loop .q) j (omega (arith, c .before .loop .inv .0, c .loop-test .left)) hj (c .before .loop .inv .2)
 
 pub fill-any-spec : {M : Type 1} → statement M
 fill-any-spec =

@@ -13,7 +13,7 @@ use Rattle.values.specs.Lanes.{lane, setsOf}
 use Rattle.values.specs.Standing.{Spells}
 use Rattle.values.proofs.Standing.{within-room}
 use Rattle.lanes.specs.Prefixes.{codesOf}
-use Rattle.lanes.proofs.Coded.{block-empty, block-clear, block-some, block-dead}
+use Rattle.lanes.proofs.Coded.{block-empty, block-clear, block-some, block-unsuspected}
 use native.Mathlib.Omega.{arith}
 use borrow.Author.Needs.{needs}
 use Rattle.lanes.proofs.block.block.Statement.{statement}
@@ -41,7 +41,7 @@ returns c =
     let start = c .before .before .before .before .before .before .before .before in
     let a = start .args in
     let ar = take (a .symbols) (a .arities .now) in
-    λ k rule hk s live.
+    λ k rule hk hx s suspected.
     block-empty ar (a .words .now) (a .heads .now) (a .tokens .now) (a .at) k rule s (a .v) (a .x0) (a .x1) (a .x2) hk (start .pre .4) (start .pre .5) (start .pre .6) (start .pre .7) _ _ (subst (λ (own : ℕ). (t : Term ℕ) (after : List Token) → Spells ar (a .tokens .now) (a .at) t after → (j : ℕ) → j < 64 → lane j (c .before .before .before .side .last .1 .1 .1 .1 .1 .1 .1 .1 .1 .1 .1 .0) ≡ spanned (wovenMoves ar (a .words .now) (getD (a .heads .now) 64 0)) (setsOf (codesOf own 0 (a .x0) (a .x1) (a .x2)) j) t) (c .before .before .before .before .before .last .ensures) (c .before .before .before .side .ensures))
     (λ j q hq. c .before .any .ensures j (ap (λ (z : ℕ). mem z j) (c .if2 .taken) ∙ ap (λ (t : Set). t j) mem-zero) q hq)
 
@@ -63,7 +63,7 @@ returns-2 c =
     let start = c .before .before .before .before .before .before .before .before .before .before .before .before .before .before in
     let a = start .args in
     let ar = take (a .symbols) (a .arities .now) in
-    λ k rule hk s live.
+    λ k rule hk hx s suspected.
     block-clear ar (a .words .now) (a .heads .now) (a .tokens .now) (a .at) k rule s (a .v) (a .x0) (a .x1) (a .x2) hk (start .pre .4) (start .pre .5) (start .pre .6) (start .pre .7) _ _ (subst (λ (own : ℕ). (t : Term ℕ) (after : List Token) → Spells ar (a .tokens .now) (a .at) t after → (j : ℕ) → j < 64 → lane j (c .before .before .before .before .before .before .before .before .before .side .last .1 .1 .1 .1 .1 .1 .1 .1 .1 .1 .1 .0) ≡ spanned (wovenMoves ar (a .words .now) (getD (a .heads .now) 64 0)) (setsOf (codesOf own 0 (a .x0) (a .x1) (a .x2)) j) t) (c .before .before .before .before .before .before .before .before .before .before .before .last .ensures) (c .before .before .before .before .before .before .before .before .before .side .ensures)) (subst (λ (own : ℕ). (t : Term ℕ) (after : List Token) → Spells ar (a .tokens .now) (a .at + 24) t after → (j : ℕ) → j < 64 → lane j (c .before .before .before .before .side2 .last .1 .1 .1 .1 .1 .1 .1 .1 .1 .1 .1 .0) ≡ spanned (wovenMoves ar (a .words .now) (getD (a .heads .now) 64 0)) (setsOf (codesOf own 0 (a .x0) (a .x1) (a .x2)) j) t) (c .before .before .before .before .before .before .before .before .before .before .before .last .ensures) (c .before .before .before .before .side2 .ensures))
     (λ j q hq. c .before .any-less .ensures j (ap (λ (z : ℕ). mem z j) (c .if3 .taken) ∙ ap (λ (t : Set). t j) mem-zero) q hq)
 
@@ -73,7 +73,7 @@ returns-3 c =
     let start = c .before .before .before .before .before .before .before .before .before .before .before .before .before .before in
     let a = start .args in
     let ar = take (a .symbols) (a .arities .now) in
-    λ k rule hk s live.
+    λ k rule hk hx s suspected.
     block-some ar (a .words .now) (a .heads .now) (a .tokens .now) (a .at) k rule s (a .v) (a .x0) (a .x1) (a .x2) hk (start .pre .4) (start .pre .5) (start .pre .6) (start .pre .7) _ _ (subst (λ (own : ℕ). (t : Term ℕ) (after : List Token) → Spells ar (a .tokens .now) (a .at) t after → (j : ℕ) → j < 64 → lane j (c .before .before .before .before .before .before .before .before .before .side .last .1 .1 .1 .1 .1 .1 .1 .1 .1 .1 .1 .0) ≡ spanned (wovenMoves ar (a .words .now) (getD (a .heads .now) 64 0)) (setsOf (codesOf own 0 (a .x0) (a .x1) (a .x2)) j) t) (c .before .before .before .before .before .before .before .before .before .before .before .last .ensures) (c .before .before .before .before .before .before .before .before .before .side .ensures)) (subst (λ (own : ℕ). (t : Term ℕ) (after : List Token) → Spells ar (a .tokens .now) (a .at + 24) t after → (j : ℕ) → j < 64 → lane j (c .before .before .before .before .side2 .last .1 .1 .1 .1 .1 .1 .1 .1 .1 .1 .1 .0) ≡ spanned (wovenMoves ar (a .words .now) (getD (a .heads .now) 64 0)) (setsOf (codesOf own 0 (a .x0) (a .x1) (a .x2)) j) t) (c .before .before .before .before .before .before .before .before .before .before .before .last .ensures) (c .before .before .before .before .side2 .ensures))
 
 -- src/block.rt:115:1
@@ -82,8 +82,8 @@ returns-4 c =
     let start = c .before .before in
     let a = start .args in
     let ar = take (a .symbols) (a .arities .now) in
-    λ k rule hk s live.
-    block-dead ar (a .words .now) (a .heads .now) (a .tokens .now) (a .at) k rule s (a .v) (a .x0) (a .x1) (a .x2) hk (start .pre .4) (start .pre .5) (start .pre .6) (start .pre .7) (a .live) live (sym (c .before .has .ensures) ∙ c .if1 .left) _ _
+    λ k rule hk hx s suspected.
+    block-unsuspected ar (a .words .now) (a .heads .now) (a .tokens .now) (a .at) k rule s (a .v) (a .x0) (a .x1) (a .x2) (a .suspects) hx suspected (sym (c .before .has .ensures) ∙ c .if1 .left) _ _
 
 pub block-spec : {M : Type 1} → statement M
 block-spec =

@@ -100,13 +100,13 @@ has-requires-2 c κs =
     let rule = c .before .before .before .before .before .before .before .before .before .before .before .before .before .before .before .before .before .before .before .before .before .before .before .search .rule in
     omega (arith, c .second-test .taken, c .before .second .inv .0 .m1-is, choices-low (a .k) (getD (a .t5 .variables) rule 0) 1 (start .pre .some-class), start .pre .most-classes)
 
-pub alive-requires-3 : At tie.Need-alive-requires-3
+pub suspects-requires : At tie.Need-suspects-requires
 unfolding automatonOf
-alive-requires-3 c κs =
+suspects-requires c κs =
     let start = c .before .before .before .before .before .before .before .before .before .before .before .before .before .before .before .before .before .before .before .before .before .before .before .before .before .before .before .before in
     let a = start .args in
     let rule = c .before .before .before .before .before .before .before .before .before .before .before .before .before .before .before .before .before .before .before .before .before .before .before .before .before .before .before .search .rule in
-    (start .pre .indexed, start .pre .ranks, left-stands (take (a .symbols) (a .arities .now)) (a .words .now) (a .heads .now) (a .t5) (a .k) (start .pre) rule (c .before .before .before .before .before .second .inv .0 .listed) (rule * 48) (c .before .before .before .before .before .second .inv .0 .is-at), search needs, c .before .before .before .before .before .second .inv .3, omega (arith, c .before .before .before .before .second-test .taken, c .before .before .before .before .before .second .inv .0 .m1-is, choices-low (a .k) (getD (a .t5 .variables) rule 0) 1 (start .pre .some-class), start .pre .most-classes))
+    (start .pre .indexed, start .pre .ranks, left-stands (take (a .symbols) (a .arities .now)) (a .words .now) (a .heads .now) (a .t5) (a .k) (start .pre) rule (c .before .before .before .before .before .second .inv .0 .listed) (rule * 48) (c .before .before .before .before .before .second .inv .0 .is-at), right-stands (take (a .symbols) (a .arities .now)) (a .words .now) (a .heads .now) (a .t5) (a .k) (start .pre) rule (c .before .before .before .before .before .second .inv .0 .listed) (rule * 48) (c .before .before .before .before .before .second .inv .0 .is-at), start .pre .few rule, start .pre .most-classes, c .before .before .before .before .before .second .inv .3, omega (arith, c .before .before .before .before .second-test .taken, c .before .before .before .before .before .second .inv .0 .m1-is, choices-low (a .k) (getD (a .t5 .variables) rule 0) 1 (start .pre .some-class), start .pre .most-classes))
 
 pub block-requires : At tie.Need-block-requires
 unfolding automatonOf

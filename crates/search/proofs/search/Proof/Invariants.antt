@@ -7,34 +7,34 @@ use lib.ListN.{take}
 use Rattle.paper.specs.Meaning.{total}
 use Rattle.sets.specs.Sets.{less}
 use Rattle.values.specs.Lanes.{lane}
-use Rattle.lanes.specs.Blocks.{Alive}
+use Rattle.lanes.specs.Blocks.{Alive, Suspected}
 use Rattle.search.proofs.Order.{ruleIn}
 use Rattle.search.proofs.Walk.{Clear, Level}
 use Rattle.search.proofs.Steps.{M, R, Ruled, Lanes}
 use Rattle.search.proofs.search.Tie as tie
 
 abbrev pub Inv-classes : tie.InvT-classes
-Inv-classes words heads arities symbols k budget rules most count examined rule at v lanes many more m0 m1 m2 live0 x0 live1 x1 live2 x2 l r j q₀ q =
+Inv-classes words heads arities symbols k budget rules most count examined rule at v lanes many more m0 m1 m2 live0 x0 live1 x1 suspected x2 l r j q₀ q =
     (q ≤ k) × ((x : ℕ) → x < q → less (lane j l) (lane j r) x ≡ false)
 
 abbrev pub μ-classes : tie.MeasureT-classes
-μ-classes words heads arities symbols k budget rules most count examined rule at v lanes many more m0 m1 m2 live0 x0 live1 x1 live2 x2 l r j q₀ q =
+μ-classes words heads arities symbols k budget rules most count examined rule at v lanes many more m0 m1 m2 live0 x0 live1 x1 suspected x2 l r j q₀ q =
     k - q
 
 abbrev pub Inv-lanes : tie.InvT-lanes
-Inv-lanes words heads arities symbols k budget rules most count examined₀ rule at v lanes many more m0 m1 m2 live0 x0 live1 x1 live2 x2 l r j₀ examined j =
+Inv-lanes words heads arities symbols k budget rules most count examined₀ rule at v lanes many more m0 m1 m2 live0 x0 live1 x1 suspected x2 l r j₀ examined j =
     Ruled (take symbols arities) words heads rules k budget most rule at v lanes many more m0 m1 m2 × Lanes (take symbols arities) words heads rules k budget rule v x0 x1 x2 l r examined₀ j examined
 
 abbrev pub μ-lanes : tie.MeasureT-lanes
-μ-lanes words heads arities symbols k budget rules most count examined₀ rule at v lanes many more m0 m1 m2 live0 x0 live1 x1 live2 x2 l r j₀ examined j =
+μ-lanes words heads arities symbols k budget rules most count examined₀ rule at v lanes many more m0 m1 m2 live0 x0 live1 x1 suspected x2 l r j₀ examined j =
     lanes - j
 
 abbrev pub Inv-third : tie.InvT-third
-Inv-third words heads arities symbols k budget rules most count examined₀ rule at v lanes many more m0 m1 m2 live0 x0 live1 x1 live2 x2₀ examined x2 =
-    Ruled (take symbols arities) words heads rules k budget most rule at v lanes many more m0 m1 m2 × Level (M (take symbols arities) words heads rules k) (R (take symbols arities) words heads rules k) v 2 rule (ruleIn (R (take symbols arities) words heads rules k) rule) (x0 ∷ (x1 ∷ [])) budget examined₀ x2 examined × Alive (M (take symbols arities) words heads rules k) (ruleIn (R (take symbols arities) words heads rules k) rule) v 2 x0 x1 live2 × (x0 < 64) × (x1 < 64)
+Inv-third words heads arities symbols k budget rules most count examined₀ rule at v lanes many more m0 m1 m2 live0 x0 live1 x1 suspected x2₀ examined x2 =
+    Ruled (take symbols arities) words heads rules k budget most rule at v lanes many more m0 m1 m2 × Level (M (take symbols arities) words heads rules k) (R (take symbols arities) words heads rules k) v 2 rule (ruleIn (R (take symbols arities) words heads rules k) rule) (x0 ∷ (x1 ∷ [])) budget examined₀ x2 examined × Suspected (M (take symbols arities) words heads rules k) (ruleIn (R (take symbols arities) words heads rules k) rule) v x0 x1 suspected × (x0 < 64) × (x1 < 64)
 
 abbrev pub μ-third : tie.MeasureT-third
-μ-third words heads arities symbols k budget rules most count examined₀ rule at v lanes many more m0 m1 m2 live0 x0 live1 x1 live2 x2₀ examined x2 =
+μ-third words heads arities symbols k budget rules most count examined₀ rule at v lanes many more m0 m1 m2 live0 x0 live1 x1 suspected x2₀ examined x2 =
     m2 - x2
 
 abbrev pub Inv-second : tie.InvT-second
