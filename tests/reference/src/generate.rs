@@ -3,6 +3,7 @@
 pub mod damage;
 pub mod document;
 pub mod faults;
+pub mod hidden;
 pub mod model;
 pub mod sizes;
 pub mod valid;
@@ -13,7 +14,8 @@ use std::collections::{BTreeMap, BTreeSet};
 use valid::Wish;
 
 /// The corpus: the paper's own list, every refusal on every kind of line, two
-/// faults at once, edges of sizes, damaged bytes, and sound certificates.
+/// faults at once, edges of sizes, damaged bytes, and sound certificates, some
+/// of them with one critical pair among very many substitutions.
 pub fn corpus() -> Vec<Vec<u8>> {
     let mut random = Random::new(20_260_101);
     let mut files: Vec<Vec<u8>> = Vec::new();
@@ -60,6 +62,9 @@ pub fn corpus() -> Vec<Vec<u8>> {
     for number in 0..100 {
         files.push(packed(7, number));
     }
+    for number in 0..60 {
+        files.push(hidden::hidden(&mut Random::numbered(7, number)).write());
+    }
     without_repeats(files)
 }
 
@@ -89,7 +94,8 @@ pub fn packed(seed: u64, index: u64) -> Vec<u8> {
     let mut random = Random::numbered(seed, index);
     let wish = *random.pick(&Wish::ALL);
     match random.below(1000) {
-        0..=429 => valid::valid(&mut random, wish).write(),
+        0..=419 => valid::valid(&mut random, wish).write(),
+        420..=429 => hidden::hidden(&mut random).write(),
         430..=449 => sizes::random_size(&mut random),
         450..=451 => {
             let file = valid::valid(&mut random, wish).write();

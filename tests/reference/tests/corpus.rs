@@ -56,7 +56,7 @@ fn the_corpus_has_every_refusal_and_verdict() {
     let files = corpus();
     assert!(files.len() >= 2000);
     let bytes: usize = files.iter().map(|file| file.len() + 2).sum();
-    assert!(bytes <= 1_500_000, "{bytes}");
+    assert!(bytes <= 1_600_000, "{bytes}");
     let mut refusals: BTreeMap<u8, u32> = BTreeMap::new();
     let mut verdicts: BTreeMap<&str, u32> = BTreeMap::new();
     for file in &files {
@@ -172,7 +172,7 @@ fn the_same_seed_gives_the_same_bytes() {
 }
 
 /// Known from one machine; the others must agree.
-const FIRST_SEED: u64 = 9_232_699_085_916_221_814;
+const FIRST_SEED: u64 = 4_701_842_103_104_618_675;
 
 #[test]
 fn random_ones_are_half_malformed_and_of_all_verdicts() {
