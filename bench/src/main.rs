@@ -179,6 +179,21 @@ fn main() {
     both("dense, one symbol of 127 rows, one rule", &arities, &full, wide, 1, LARGEST);
     both("dense, one symbol of 127 rows, largest total", &arities, &full, wide, 32, LARGEST);
 
+    // As many rows as a side can walk: 18 of its 24 tokens are one unary symbol, which has all 128 rows but two. They lead to one class, to
+    // two classes by turns, or to many; every class always leads to 0, so no left side is ever empty.
+    let chain = "1,1,1,1,1,1,1,1,1,1,1,1,1,1,5,1,x0,1,x1,3,1,x2,1,x3";
+    let unary = |target: &dyn Fn(u8) -> Vec<u8>| -> Vec<Vec<u8>> {
+        let mut rows: Vec<Vec<u8>> = (0..126).map(target).collect();
+        rows.extend([vec![3, 0, 0, 0], vec![5, 0, 0, 0, 0]]);
+        rows
+    };
+    let one = unary(&|i| vec![1, i % 32, 0]);
+    let turns = unary(&|i| vec![1, i / 2 % 32, i / 64 * 2 + i % 2]);
+    let many = unary(&|i| vec![1, i % 32, if i < 32 { 0 } else { 1 + i.wrapping_mul(7) % 30 }]);
+    both("18 unary symbols of 126 rows, to one class", &arities, &one, chain, 32, LARGEST);
+    both("the same, to two classes by turns", &arities, &turns, chain, 32, LARGEST);
+    both("the same, to many classes", &arities, &many, chain, 32, LARGEST);
+
     // Sparse: each symbol has four transitions, so most prefixes are dead.
     let mut sparse: Vec<Vec<u8>> = Vec::new();
     for f in 0..8u8 {
