@@ -11,7 +11,7 @@ use Rattle.theory.specs.Lists.{countFrom}
 use Rattle.theory.specs.Term.{Term, variables}
 use Rattle.theory.specs.Preorder.{Token, function, argument, preorder}
 use Rattle.theory.specs.Rewriting.{Rule, variableCount}
-use Rattle.paper.specs.Format.{Reading, refused, gave, rule}
+use Rattle.paper.specs.Format.{Reading, refused, gave}
 use Rattle.fields.specs.declared.cursor.Cursor.{Cursor}
 use Rattle.fields.specs.Padded.{padded}
 use Rattle.fields.specs.Value.{code, codeOf}

@@ -1,5 +1,5 @@
 -- The fixed lines and the blocks, put before paper's next reader.
-use mathlib.Core.Path.{_≡_, refl, sym, ap, _∙_}
+use mathlib.Core.Path.{_≡_, sym, ap, _∙_}
 use mathlib.Core.Bool.{Bool}
 use mathlib.Core.List.{List, [], _∷_}
 use Prim.Native.Nat.{ℕ, zero, suc, _+_, _-_, _≤_}
@@ -9,13 +9,11 @@ use lib.ListN.{length, drop, take, getD, length-take}
 use Rattle.theory.specs.Automaton.{Automaton}
 use Rattle.paper.specs.Bytes.{bytes}
 use Rattle.paper.specs.Judged.{Judged}
-use Rattle.paper.specs.Fields.{each, number}
-use Rattle.paper.proofs.Judged.{Says, said, passed, spoken, anything}
-use Rattle.paper.proofs.Lines.{entries-sound}
+use Rattle.paper.proofs.Judged.{Says, said, passed, spoken}
 use Rattle.sides.proofs.SidesTold.{judged-at}
 use Rattle.paper.specs.Certificate.{Kind, row}
-use Rattle.paper.specs.Tables.{one, transition, numbers, numbersOf, list, arityList}
-use Rattle.paper.specs.Format.{Reading, refused, gave, Reader, goOn, _>>=_, give, fixed, lineOf, times, rule}
+use Rattle.paper.specs.Tables.{one, transition, numbersOf, list, arityList}
+use Rattle.paper.specs.Format.{Reading, refused, gave, Reader, _>>=_, give, fixed, lineOf, times, rule}
 use Rattle.fields.specs.declared.cursor.Cursor.{Cursor}
 use Rattle.fields.specs.declared.cursor.Field.{Field}
 use Rattle.fields.specs.declared.cursor.Field.the-variants.{Read, Refused as NoField}

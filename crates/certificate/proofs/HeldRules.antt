@@ -20,7 +20,6 @@ use Rattle.fields.specs.Padded.{padded}
 use Rattle.fields.proofs.Whole.{padded-low}
 use Rattle.tables.specs.Held.{tokenOf, spoken, sideAt, ruleAt, rulesOf}
 use Rattle.tables.specs.Sound.{SoundRule}
-use Rattle.tables.specs.declared.Rules.{Rules}
 use Rattle.blocks.specs.Packed.{byteOf, sideOf, ruleOf, sidesOf, leftCount, rightCount, packedRules}
 use Rattle.blocks.proofs.Arrays.{padded-length, padded-get, drop-padded, listed, getD-mem, mem-low}
 use Rattle.blocks.proofs.RuleLaws.{sides-length, sides-append}

@@ -1,10 +1,9 @@
 -- The three demands, of whatever the public operation may give back: `Answers` is its contract.
 use mathlib.Core.Path.{_≡_, refl, sym, ap, _∙_}
-use mathlib.Core.Logic.{_⊎_, inl, inr}
-use mathlib.Core.List.{List, [], _∷_, _++_, List·Memᴰ}
+use mathlib.Core.Logic.{inl, inr}
+use mathlib.Core.List.{List, [], List·Memᴰ}
 use mathlib.Core.Option.{Option}
 use Prim.Native.Nat.{ℕ, _≤_, _<_}
-use Prim.Native.String.{String}
 use native.Mathlib.Omega.{arith}
 use borrow.Author.Tests.{ltb-true, ltb-false}
 use lib.Dec.{ltb}
@@ -18,7 +17,7 @@ use Rattle.paper.specs.Certificate.{Certificate}
 use Rattle.paper.specs.Format.{File, malformed as refused, holds, readFile}
 use Rattle.paper.specs.Verdict.{Verdict, malformed, unsuitable, critical, accepted, stopped, verdictOn, verdictOf}
 use Rattle.paper.specs.Meaning.{total, Means, Given}
-use Rattle.paper.specs.Answer.{decimal, lineWith, eight, answer, answerOf}
+use Rattle.paper.specs.Answer.{lineWith, eight, answer, answerOf}
 use Rattle.paper.specs.Contract.{Returned, refusal, returned}
 use Rattle.paper.specs.Known.{Row, table, lines}
 use Rattle.paper.proofs.Smallest.{decided}

@@ -1,10 +1,10 @@
 -- The verdict on a file from what its reading gave.
-use mathlib.Core.Path.{_≡_, refl, sym, ap, _∙_}
+use mathlib.Core.Path.{_≡_, refl, ap, _∙_}
 use mathlib.Core.List.{List}
 use Prim.Native.Nat.{ℕ, zero, suc}
 use native.Mathlib.Omega.{arith}
 use borrow.Author.Tests.{ne-eqb}
-use Rattle.paper.specs.Format.{File, malformed as refused, holds, readFile}
+use Rattle.paper.specs.Format.{malformed as refused, holds, readFile}
 use Rattle.paper.specs.Verdict.{malformed, verdict, verdictOn, verdictOf}
 use Rattle.tables.specs.Held.{held}
 use Rattle.certificate.specs.declared.reading.Read.{Read}

@@ -1,5 +1,5 @@
 -- The byte machine's entries are paper's: each entry of the value up to the LF, read as a number or a token.
-use mathlib.Core.Path.{_≡_, refl, sym, ap, _∙_}
+use mathlib.Core.Path.{_≡_, refl, ap, _∙_}
 use mathlib.Core.Bool.{Bool, true, false, _&&_, and-false}
 use mathlib.Core.Logic.{inl, inr}
 use mathlib.Core.List.{List, [], _∷_}
@@ -8,7 +8,6 @@ use native.Mathlib.Omega.{arith}
 use borrow.Author.Tests.{eqb-true}
 use lib.Dec.{eqb}
 use lib.ListN.{drop}
-use lib.Seq.{drop-drop}
 use Rattle.paper.specs.Judged.{Judged, fault, says, _>>=_}
 use Rattle.paper.specs.Lines.{Line, Said, ended}
 use Rattle.paper.specs.Fields.{each, entries, lengthen}

@@ -1,6 +1,6 @@
 -- A number field: 1 to 8 digits with no leading zero, as what stands at the front of the rest of the file.
 -- Assumes nothing: these are definitions.
-use Prim.Native.Nat.{ℕ, zero, _+_, _*_, _-_}
+use Prim.Native.Nat.{ℕ, _+_, _*_, _-_}
 use mathlib.Core.List.{List, [], _∷_}
 use mathlib.Core.Bool.{Bool, true, false, _&&_, _||_, not, cond}
 use lib.Dec.{leb, eqb}

@@ -9,10 +9,10 @@ use lib.ListN.{length, getD, take, List·getD-eq-default}
 use lib.Dec.{eqb}
 use lib.Seq.{getD-take}
 use Rattle.theory.specs.Lists.{countFrom, some}
-use Rattle.theory.specs.Automaton.{Automaton, Transition, _of_gives_, InRange}
+use Rattle.theory.specs.Automaton.{_of_gives_}
 use Rattle.theory.specs.Merging.{classOf, mergeTransition, merged}
 use Rattle.theory.specs.Critical.{Share}
-use Rattle.theory.proofs.Grow.{Contained, share-more}
+use Rattle.theory.proofs.Grow.{share-more}
 use Rattle.theory.proofs.Merged.{merged-in-range}
 use Rattle.paper.specs.Limits.{mostTransitions, mostStates, mostArity}
 use Rattle.paper.specs.Verdict.{sharedPair}
@@ -26,7 +26,7 @@ use Rattle.tables.specs.Sound.{Sound}
 use Rattle.tables.proofs.Moves.{row-move, map-same, moves-take, moves-count}
 use Rattle.tables.proofs.Members.{members-sound, members-complete}
 use Rattle.sharing.specs.Share.{flat, Exact, Tables as Shareable}
-use Rattle.judge.specs.Merged.{mergedByte, Merged, finalClass}
+use Rattle.judge.specs.Merged.{Merged, finalClass}
 use Rattle.judge.specs.Pairs.{sharedOf}
 use Rattle.judge.specs.Judged.{mergedOf, badOf}
 use Rattle.judge.proofs.Merge.{symbol-byte, state-byte}

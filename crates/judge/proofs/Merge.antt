@@ -2,7 +2,7 @@
 use mathlib.Core.Path.{_≡_, refl, sym, ap, ap₂, _∙_, fun-ext}
 use mathlib.Core.Bool.{Bool, true, false, _||_, or-false, cond, or-assoc}
 use mathlib.Core.List.{List, [], _∷_, _++_, map, map-append}
-use Prim.Native.Nat.{ℕ, zero, suc, _+_, _%_, _≤_, _<_}
+use Prim.Native.Nat.{ℕ, zero, suc, _+_, _%_, _<_}
 use native.Mathlib.Omega.{arith}
 use native.Mathlib.Nat.{add-zero}
 use native.Mathlib.Decide.{ℕ-discrete}
@@ -11,7 +11,7 @@ use lib.Dec.{eqb}
 use lib.ListN.{length, getD, set, length-set, replicate, length-replicate}
 use lib.Seq.{getD-set-same, getD-set-other}
 use Rattle.theory.specs.Lists.{some}
-use Rattle.sets.specs.Sets.{Set, mem, none, plus}
+use Rattle.sets.specs.Sets.{Set, mem, plus}
 use Rattle.sets.proofs.Laws.{mem-zero}
 use Rattle.tables.specs.Held.{members}
 use Rattle.judge.specs.Merged.{mergedByte, Merged, finalClass}

@@ -1,7 +1,7 @@
 -- What the loops find over masks is the pair that the paper names.
-use mathlib.Core.Path.{_≡_, refl, sym, ap, ap₂, _∙_}
-use mathlib.Core.Logic.{_⊎_, inl, inr, _↔_}
-use mathlib.Core.Bool.{Bool, true, false, _&&_, and-eq-true-iff, true≢false}
+use mathlib.Core.Path.{_≡_, sym}
+use mathlib.Core.Logic.{inl, inr, _↔_}
+use mathlib.Core.Bool.{true, _&&_, and-eq-true-iff}
 use mathlib.Core.List.{List, List·Memᴰ}
 use mathlib.Core.Option.{Option, none, some}
 use Prim.Native.Nat.{ℕ, zero, suc, _+_, _≤_, _<_}
@@ -10,9 +10,9 @@ use native.Mathlib.Decide.{decLe}
 use lib.ListN.{getD}
 use Rattle.theory.specs.Automaton.{Automaton, InRange}
 use Rattle.theory.specs.Critical.{Share, Suitable}
-use Rattle.paper.specs.Verdict.{smallest, sharedPair}
+use Rattle.paper.specs.Verdict.{sharedPair}
 use Rattle.paper.specs.Meaning.{Smallest, FinalPair}
-use Rattle.paper.proofs.Smallest.{decided, Found, smallest-some, smallest-none}
+use Rattle.paper.proofs.Smallest.{decided, smallest-some, smallest-none}
 use Rattle.paper.proofs.Examined.{found}
 use Rattle.paper.proofs.Exact.{FinalInRange, pair-named, pair-none}
 use Rattle.sets.specs.Sets.{mem}

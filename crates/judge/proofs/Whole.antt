@@ -1,23 +1,23 @@
 -- The search over the woven table is the paper's over the merged automaton, and the verdict is put together from sharing and the search.
-use mathlib.Core.Path.{_≡_, refl, sym, ap, _∙_}
-use mathlib.Core.List.{List, map, List·Memᴰ}
+use mathlib.Core.Path.{_≡_, ap, _∙_}
+use mathlib.Core.List.{List}
 use mathlib.Core.Option.{none, some}
-use Prim.Native.Nat.{ℕ, suc, _*_, _≤_, _<_}
+use Prim.Native.Nat.{ℕ, _*_, _≤_}
 use native.Mathlib.Omega.{arith}
-use lib.ListN.{length, getD, length-map}
+use lib.ListN.{length-map}
 use Rattle.theory.specs.Lists.{countFrom}
-use Rattle.theory.specs.Automaton.{Automaton, Transition, InRange}
+use Rattle.theory.specs.Automaton.{Automaton, InRange}
 use Rattle.theory.specs.Merging.{classes, merged}
 use Rattle.theory.proofs.Count.{length-count}
 use Rattle.theory.proofs.Grow.{Contained}
 use Rattle.theory.proofs.Merged.{merged-in-range}
-use Rattle.paper.specs.Limits.{mostRules, mostStates}
+use Rattle.paper.specs.Limits.{mostRules}
 use Rattle.paper.specs.Verdict.{unsuitable, cases, sharedPair, examine, judge, verdict}
 use Rattle.tables.specs.declared.Tables.{Tables}
 use Rattle.tables.specs.declared.Merging.{Merging}
-use Rattle.tables.specs.Held.{movesOf, automatonOf as tableOf, aritiesOf, rulesOf, mergeOf, held}
+use Rattle.tables.specs.Held.{automatonOf as tableOf, aritiesOf, rulesOf, mergeOf, held}
 use Rattle.tables.specs.Sound.{Sound}
-use Rattle.woven.specs.Woven.{wovenMoves, Flat, Indexed, SameMoves}
+use Rattle.woven.specs.Woven.{Flat, Indexed, SameMoves}
 use Rattle.woven.proofs.Members.{examine-same}
 use Rattle.lanes.specs.Automaton.{automatonOf}
 use Rattle.search.specs.Searched.{Searchable}

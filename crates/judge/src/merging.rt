@@ -3,7 +3,7 @@ use sets::has;
 use sets::with;
 ghost use mathlib.Core.Path.{_≡_};
 ghost use Prim.Native.Nat.{ℕ, _*_, _≤_, _<_};
-ghost use lib.ListN.{length, getD};
+ghost use lib.ListN.{getD};
 ghost use Rattle.sets.specs.Sets.{mem};
 ghost use Rattle.judge.specs.Merged.{mergedByte, Merged, finalClass};
 

@@ -1,34 +1,34 @@
 -- What a file holds is well formed: what each line's tests and the reading of the lines leave of a certificate.
-use mathlib.Core.Path.{_≡_, refl, sym, ap, _∙_}
-use mathlib.Core.Logic.{_⊎_, inl, inr, _↔_}
+use mathlib.Core.Path.{_≡_, refl, ap}
+use mathlib.Core.Logic.{inl, inr}
 use mathlib.Core.Bool.{Bool, true, false, _&&_, not, and-eq-true-iff, false≢true}
 use mathlib.Core.List.{List, [], _∷_, List·Memᴰ, List·Memᴰ·head, List·Memᴰ·tail, List·Memᴰ·not-nil, List·Memᴰ·append-cases, Memᴰ·append-left, Memᴰ·append-right, dropLast}
 use Prim.Native.Nat.{ℕ, zero, suc, _+_, _≤_, _<_}
 use Prim.Native.String.{String}
 use native.Mathlib.Omega.{arith}
 use native.Mathlib.Decide.{decLe}
-use lib.Dec.{eqb, leb, ltb, ltb→lt, leb→le}
+use lib.Dec.{eqb, leb, ltb, leb→le}
 use lib.ListN.{length, getD}
 use Rattle.theory.specs.Lists.{countFrom, some as any}
 use Rattle.theory.specs.Term.{Term, Terms, var, node, none, _then_, variables, variablesAll}
-use Rattle.theory.specs.Rewriting.{Rule, WellShaped, variableCount}
-use Rattle.theory.specs.Automaton.{Automaton, Transition, _of_gives_}
-use Rattle.theory.specs.Preorder.{Token, function, argument, preorder, preorderAll, Ranked}
+use Rattle.theory.specs.Rewriting.{variableCount}
+use Rattle.theory.specs.Automaton.{_of_gives_}
+use Rattle.theory.specs.Preorder.{argument, preorder, preorderAll}
 use Rattle.theory.proofs.Count.{order-mem}
 use Rattle.theory.proofs.Tests.{equal-iff, not-iff}
 use Rattle.paper.specs.Limits.{mostSymbols, mostArity, lastState, lastVariable, mostBytes}
 use Rattle.paper.specs.Judged.{Judged, fault, says}
-use Rattle.paper.specs.Lines.{Line, takeLine, Said, judgedLine}
+use Rattle.paper.specs.Lines.{takeLine, Said, judgedLine}
 use Rattle.paper.specs.Fields.{all, each, number, entries}
-use Rattle.paper.specs.Certificate.{Certificate, Kind, Budget, Arities, States, Trans, BadStates, BadTrans, Rules, Merge, Row, row}
+use Rattle.paper.specs.Certificate.{Certificate, Kind, Budget, Arities, States, Trans, BadStates, BadTrans, Rules, Merge, row}
 use Rattle.paper.specs.Tables.{numbers, numbersOf, within, one, list, arityList, ascending, finalList, lastOf, transitionOf, fromNumbers, transition, numbered, classList}
-use Rattle.paper.specs.Sides.{known, termOf, term, same, bare, leftSide, rightSide}
-use Rattle.paper.specs.Format.{Reading, refused, gave, Reader, goOn, _>>=_, _>>_, give, onLine, lineOf, fixed, times, rule, end, certificate, File, malformed, holds, wholeFile, readFile}
-use Rattle.paper.specs.WellFormed.{GoodTransition, GoodAutomaton, GoodTerm, GoodRule, WellFormed}
+use Rattle.paper.specs.Sides.{known, term, same, bare, leftSide, rightSide}
+use Rattle.paper.specs.Format.{Reading, refused, gave, Reader, goOn, _>>=_, _>>_, give, onLine, lineOf, fixed, times, rule, certificate, holds, wholeFile, readFile}
+use Rattle.paper.specs.WellFormed.{GoodTransition, GoodTerm, GoodRule, WellFormed}
 use Rattle.paper.proofs.Smallest.{decided}
 use Rattle.paper.proofs.Exact.{listed-iff}
-use Rattle.paper.proofs.Judged.{silent, parts, Says, said, passed, spoken, anything}
-use Rattle.paper.proofs.Lines.{Entries, entries-sound}
+use Rattle.paper.proofs.Judged.{Says, said, passed, spoken, anything}
+use Rattle.paper.proofs.Lines.{entries-sound}
 use Rattle.paper.proofs.Preorder.{preorder-exact}
 use borrow.Author.Tests.{ltb-true}
 

@@ -1,14 +1,13 @@
 -- The total's largest value, and the answer's length.
-use mathlib.Core.Path.{_≡_, refl, sym, ap, _∙_}
-use mathlib.Core.Logic.{_⊎_, inl, inr}
-use mathlib.Core.Bool.{Bool, true, false}
-use mathlib.Core.List.{List, [], _∷_, _++_, List·Memᴰ, List·Memᴰ·head, List·Memᴰ·tail, Memᴰ·append-right}
+use mathlib.Core.Path.{_≡_, refl, ap, _∙_}
+use mathlib.Core.Logic.{inl, inr}
+use mathlib.Core.List.{List, [], _∷_, List·Memᴰ, List·Memᴰ·head, List·Memᴰ·tail, Memᴰ·append-right}
 use mathlib.Core.Option.{Option, none, some}
 use Prim.Native.Nat.{ℕ, zero, suc, _+_, _*_, _^_, _-_, _≤_, _<_, _/_, _%_}
 use Prim.Native.String.{String}
 use native.Mathlib.Omega.{arith}
 use native.Mathlib.Nat.{le-trans, pow-le-pow-left, pow-le-pow-right}
-use lib.Dec.{ltb, lit≤}
+use lib.Dec.{ltb}
 use lib.ListN.{length, length-append}
 use Rattle.theory.specs.Rewriting.{Rule, variableCount}
 use Rattle.theory.specs.Merging.{largest, classes, merged}
@@ -17,9 +16,9 @@ use Rattle.paper.specs.Bytes.{bytes, LF, comma, digit0}
 use Rattle.paper.specs.Limits.{mostBudget, mostStates, lastState, mostDigits, leastBuffer}
 use Rattle.paper.specs.Certificate.{Certificate}
 use Rattle.paper.specs.Format.{File, malformed as refused, holds, readFile}
-use Rattle.paper.specs.Verdict.{Verdict, malformed, unsuitable, critical, accepted, stopped, cases, verdict, verdictOn, verdictOf}
-use Rattle.paper.specs.Meaning.{total, FirstCritical, Means, Given}
-use Rattle.paper.specs.WellFormed.{GoodRule, WellFormed}
+use Rattle.paper.specs.Verdict.{Verdict, malformed, unsuitable, critical, accepted, stopped, verdict, verdictOn, verdictOf}
+use Rattle.paper.specs.Meaning.{total, Means, Given}
+use Rattle.paper.specs.WellFormed.{WellFormed}
 use Rattle.paper.specs.Answer.{digits, decimal, decimals, decimalIf, dash, lineWith, eight, answer, answerOf}
 use Rattle.paper.proofs.Smallest.{decided}
 use Rattle.paper.proofs.Cases.{cases-sound}

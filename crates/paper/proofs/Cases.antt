@@ -1,17 +1,17 @@
 -- The substitutions in order: how many there are, and that they are those of the critical pairs.
 use mathlib.Core.Path.{_≡_, refl, sym, ap, _∙_}
-use mathlib.Core.Logic.{_⊎_, inl, inr, _↔_}
-use mathlib.Core.Bool.{Bool, true, false, not, and-eq-true-iff}
-use mathlib.Core.List.{List, [], _∷_, _++_, map, List·Memᴰ, List·Memᴰ·head, List·Memᴰ·tail, List·Memᴰ·not-nil, List·Memᴰ·append-cases, Memᴰ·append-left, Memᴰ·append-right, Memᴰ·map, Memᴰ·of-map, Memᴰ·cast}
-use mathlib.Core.Option.{Option, none, some}
-use Prim.Native.Nat.{ℕ, zero, suc, _+_, _*_, _^_, _≤_, _<_}
+use mathlib.Core.Logic.{inl, inr, _↔_}
+use mathlib.Core.Bool.{true, and-eq-true-iff}
+use mathlib.Core.List.{List, [], _∷_, map, List·Memᴰ, List·Memᴰ·head, List·Memᴰ·tail, List·Memᴰ·not-nil, List·Memᴰ·append-cases, Memᴰ·append-left, Memᴰ·append-right, Memᴰ·map, Memᴰ·of-map, Memᴰ·cast}
+use mathlib.Core.Option.{none, some}
+use Prim.Native.Nat.{ℕ, zero, suc, _*_, _^_}
 use native.Mathlib.Omega.{arith}
 use native.Mathlib.Nat.{zero-mul, suc-mul, pow-zero, pow-succ'}
 use lib.ListN.{length, length-append, length-map}
 use Rattle.theory.specs.Lists.{countFrom}
 use Rattle.theory.specs.Rewriting.{Rule, variableCount, WellShaped}
 use Rattle.theory.specs.Automaton.{Automaton, InRange}
-use Rattle.theory.specs.Critical.{entry, Substitutable, CriticalPair, Acritical}
+use Rattle.theory.specs.Critical.{entry, Substitutable, Acritical}
 use Rattle.theory.specs.Value.{value}
 use Rattle.theory.specs.Search.{spread, substitutions, critical as isCritical}
 use Rattle.theory.proofs.Count.{length-count}
@@ -20,7 +20,7 @@ use Rattle.theory.proofs.Value.{value-exact}
 use Rattle.theory.proofs.Search.{substitutions-sound, substitutions-complete, left-below}
 use Rattle.paper.specs.Verdict.{Case, case, cases, criticalClass}
 use Rattle.paper.specs.Meaning.{total, Smallest, CriticalFor, Quiet}
-use Rattle.paper.proofs.Smallest.{Found, smallest-some, smallest-none}
+use Rattle.paper.proofs.Smallest.{smallest-some, smallest-none}
 
 length-spread : (cs : List ℕ) (ls : List (List ℕ)) → length (spread cs ls) ≡ length cs * length ls
 unfolding spread

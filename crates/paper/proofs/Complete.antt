@@ -1,31 +1,31 @@
 -- The file that says a well-formed certificate is read as that certificate.
 use mathlib.Core.Path.{_≡_, refl, sym, ap, _∙_}
-use mathlib.Core.Logic.{_⊎_, inl, inr, _↔_}
-use mathlib.Core.Bool.{Bool, true, false, _&&_, not, and-eq-true-iff, false≢true}
+use mathlib.Core.Logic.{inl, inr, _↔_}
+use mathlib.Core.Bool.{Bool, true, false, not, and-eq-true-iff, false≢true}
 use mathlib.Core.List.{List, [], _∷_, _++_, map, append-assoc, append-nil, List·Memᴰ, List·Memᴰ·head, List·Memᴰ·tail, List·Memᴰ·not-nil, List·Memᴰ·append-cases, List·Memᴰ·cases-cons, List·Memᴰ·eq-of-singleton, Memᴰ·of-map, dropLast}
-use Prim.Native.Nat.{ℕ, zero, suc, _+_, _^_, _≤_, _<_}
+use Prim.Native.Nat.{ℕ, suc, _+_, _^_, _≤_, _<_}
 use Prim.Native.String.{String}
 use native.Mathlib.Omega.{arith}
 use lib.Dec.{eqb, leb, ltb, lit<}
-use lib.ListN.{length, getD, length-append}
+use lib.ListN.{length, length-append}
 use borrow.Author.Tests.{le-leb, lt-ltb, eq-eqb, ne-eqb, ltb-true, leb-true}
 use Rattle.theory.specs.Term.{Term, var, node, variables}
-use Rattle.theory.specs.Lists.{countFrom, some as any}
-use Rattle.theory.specs.Rewriting.{Rule, WellShaped, variableCount}
+use Rattle.theory.specs.Lists.{some as any}
+use Rattle.theory.specs.Rewriting.{Rule, variableCount}
 use Rattle.theory.specs.Preorder.{Token, function, argument, preorder}
 use Rattle.paper.specs.Bytes.{bytes, LF, comma, digit0, letterX}
 use Rattle.paper.specs.Limits.{mostSymbols, mostArity, mostStates, lastState, mostTokens, mostDigits, mostBytes}
 use Rattle.paper.specs.Judged
-use Rattle.paper.specs.Judged.{Judged, fault, says, _unless_}
+use Rattle.paper.specs.Judged.{Judged, says, _unless_}
 use Rattle.paper.specs.Fields.{all, each, digit, isNumber, number, entries, token}
-use Rattle.paper.specs.Certificate.{Certificate, Kind, Budget, Arities, States, Final, Trans, BadStates, BadFinal, BadTrans, Rules, Merge, Row, row}
-use Rattle.paper.specs.Sides.{known, termOf, term, same, bare, leftSide, rightSide}
+use Rattle.paper.specs.Certificate.{Certificate, Kind, Budget, Arities, States, Final, Trans, BadStates, BadFinal, BadTrans, Rules, Merge, row}
+use Rattle.paper.specs.Sides.{known, term, same, bare, leftSide, rightSide}
 use Rattle.paper.specs.Tables.{numbers, numbersOf, within, one, list, arityList, ascending, finalList, lastOf, transitionOf, fromNumbers, transition, numbered, classList}
 use Rattle.theory.specs.Automaton.{Transition}
-use Rattle.paper.specs.WellFormed.{GoodTransition, GoodAutomaton, GoodTerm, GoodRule, WellFormed}
+use Rattle.paper.specs.WellFormed.{GoodTransition, GoodTerm, GoodRule, WellFormed}
 use Rattle.paper.specs.Answer.{digits, decimal, decimals, lineWith}
-use Rattle.paper.specs.Lines.{Line, takeLine, Said, judgedLine}
-use Rattle.paper.specs.Format.{Reading, refused, gave, Reader, goOn, _>>=_, _>>_, give, onLine, lineOf, fixed, times, rule, end, certificate, File, malformed, holds, wholeFile, readFile}
+use Rattle.paper.specs.Lines.{judgedLine}
+use Rattle.paper.specs.Format.{gave, Reader, goOn, _>>=_, _>>_, give, onLine, lineOf, fixed, times, rule, end, certificate, holds, wholeFile, readFile}
 use Rattle.paper.specs.Spelling.{tokenText, tokensText, together, fixedText, transitionText, ruleText, fileOf}
 use Rattle.paper.proofs.Judged.{silent}
 use Rattle.paper.proofs.Exact.{listed-iff}

@@ -1,6 +1,6 @@
 -- What stands in the lent buffer after a call.
-use mathlib.Core.Path.{_≡_, refl, ap}
-use mathlib.Core.Logic.{_⊎_, inl, inr}
+use mathlib.Core.Path.{_≡_, ap}
+use mathlib.Core.Logic.{inl, inr}
 use mathlib.Core.List.{List, _++_}
 use Prim.Native.Nat.{ℕ, _≤_, _<_}
 use native.Mathlib.Omega.{arith}
@@ -11,7 +11,7 @@ use lib.Seq.{take-append-seam, drop-append-seam}
 use Rattle.paper.specs.Limits.{leastBuffer}
 use Rattle.paper.specs.Answer.{answerOf}
 use Rattle.paper.specs.Verdict.{verdictOf}
-use Rattle.paper.specs.Contract.{Returned, refusal, returned}
+use Rattle.paper.specs.Contract.{refusal, returned}
 use Rattle.paper.proofs.Smallest.{decided}
 use Rattle.paper.proofs.Bounds.{answer-short}
 

@@ -1,10 +1,10 @@
 -- Answers determine verdicts: two verdicts with small numbers and the same answer are the same.
 use mathlib.Core.Path.{_≡_, refl, sym, ap, _∙_}
 use mathlib.Core.Bool.{Bool, true, false, false≢true}
-use mathlib.Core.Logic.{_⊎_, inl, inr}
-use mathlib.Core.List.{List, [], _∷_, _++_, List·Memᴰ, List·Memᴰ·head, List·Memᴰ·tail, List·Memᴰ·cases-cons, append-assoc, append-nil}
+use mathlib.Core.Logic.{inl, inr}
+use mathlib.Core.List.{List, [], _∷_, _++_, List·Memᴰ, List·Memᴰ·head, List·Memᴰ·cases-cons, append-assoc, append-nil}
 use mathlib.Core.Option.{Option, none, some}
-use Prim.Native.Nat.{ℕ, _^_, _≤_, _<_}
+use Prim.Native.Nat.{ℕ, _^_, _<_}
 use Prim.Native.String.{String}
 use native.Mathlib.Omega.{arith}
 use borrow.Author.Tests.{ne-eqb, eqb-false}
@@ -12,7 +12,7 @@ use lib.Dec.{eqb}
 use lib.ListN.{getD}
 use Rattle.paper.specs.Bytes.{bytes, LF}
 use Rattle.paper.specs.Limits.{mostDigits}
-use Rattle.paper.specs.Judged.{Judged, fault, says, _>>=_}
+use Rattle.paper.specs.Judged.{Judged, says, _>>=_}
 use Rattle.paper.specs.Fields.{number}
 use Rattle.paper.specs.Lines.{Line, takeLine}
 use Rattle.paper.specs.Tables.{numbersOf}

@@ -1,18 +1,18 @@
 -- A number that the answer writes is read back as that number.
-use mathlib.Core.Path.{_≡_, refl, sym, ap, _∙_}
-use mathlib.Core.Logic.{_⊎_, inl, inr, _↔_}
+use mathlib.Core.Path.{_≡_, refl, ap, _∙_}
+use mathlib.Core.Logic.{inl, inr, _↔_}
 use mathlib.Core.Bool.{Bool, true, false, _&&_, not, false≢true, and-eq-true-iff}
 use mathlib.Core.List.{List, [], _∷_, _++_, append-nil}
 use Prim.Native.Nat.{ℕ, zero, suc, _+_, _*_, _-_, _^_, _/_, _%_, _≤_, _<_}
 use native.Mathlib.Omega.{arith}
 use native.Mathlib.Nat.{pow-zero, pow-succ', pow-le-pow-right, zero-add, mul-assoc, mul-le-mul-right}
-use lib.Dec.{T, eqb, leb, ltb, ltb→lt, le→leb, nltb→le}
+use lib.Dec.{T, eqb, leb, ltb, le→leb}
 use lib.ListN.{length}
 use borrow.Author.Tests.{leb-true, lt-ltb, le-ltb, eqb-false, not-true, ltb-true, ltb-false}
 use Rattle.theory.proofs.Tests.{equal-iff}
 use Rattle.paper.specs.Bytes.{digit0}
 use Rattle.paper.specs.Limits.{mostDigits}
-use Rattle.paper.specs.Judged.{Judged, says, _>>_, _unless_}
+use Rattle.paper.specs.Judged.{says, _>>_, _unless_}
 use Rattle.paper.specs.Fields.{all, digit, isNumber, fromDigits, number}
 use Rattle.paper.specs.Answer.{digits, decimal}
 use Rattle.paper.proofs.Smallest.{decided}

@@ -15,12 +15,12 @@ use Rattle.theory.specs.Preorder.{Token, function, argument}
 use Rattle.paper.specs.Bytes.{bytes, LF, letterX}
 use Rattle.paper.specs.Limits.{mostBytes}
 use Rattle.paper.specs.Judged.{Judged, fault, says, _>>=_, _>>_, _unless_}
-use Rattle.paper.specs.Lines.{Line, after, ended, takeLine, Said, judgedLine}
+use Rattle.paper.specs.Lines.{after, ended, takeLine, Said, judgedLine}
 use Rattle.paper.specs.Fields.{each, number, entries, token}
 use Rattle.paper.specs.Certificate.{Certificate, Kind, row}
 use Rattle.paper.specs.Tables.{numbers, numbersOf, one, list, arityList, finalList, transitionOf, fromNumbers, transition, classList}
 use Rattle.paper.specs.Sides.{part, before, terms, single, termOf, term, leftSide, rightSide}
-use Rattle.paper.specs.Format.{Reading, refused, gave, Reader, goOn, give, onLine, lineOf, fixed, times, rule, end, certificate, Refusal, too-long, on-line, File, malformed, holds, wholeFile, readFile}
+use Rattle.paper.specs.Format.{Reading, refused, gave, Reader, goOn, give, onLine, lineOf, fixed, times, rule, end, certificate, Refusal, too-long, on-line, malformed, holds, wholeFile, readFile}
 use Rattle.paper.specs.Format
 use Rattle.paper.proofs.Smallest.{decided}
 use Rattle.paper.proofs.Judged.{silent, Says, said, spoken, anything}

@@ -1,33 +1,32 @@
 -- A file that holds a certificate is the one file that says it, byte for byte.
 use mathlib.Core.Path.{_≡_, refl, sym, ap, _∙_}
-use mathlib.Core.Logic.{_⊎_, inl, inr, _↔_}
-use mathlib.Core.Bool.{Bool, true, false, _&&_, not}
+use mathlib.Core.Logic.{inl, inr}
+use mathlib.Core.Bool.{Bool, true, false}
 use mathlib.Core.List.{List, [], _∷_, _++_, map, append-assoc, append-nil, dropLast}
 use Prim.Native.Nat.{ℕ, zero, suc, _+_}
 use Prim.Native.String.{String}
 use native.Mathlib.Omega.{arith}
-use lib.Dec.{eqb, leb, ltb}
+use lib.Dec.{eqb, leb}
 use lib.ListN.{length, getD}
 use Rattle.theory.specs.Term.{Term}
 use Rattle.theory.specs.Preorder.{Token, function, argument, preorder}
-use Rattle.theory.specs.Rewriting.{Rule}
 use Rattle.theory.specs.Automaton.{Transition}
 use Rattle.theory.proofs.Tests.{equal-iff}
 use Rattle.paper.specs.Bytes.{bytes, LF, comma, letterX}
 use Rattle.paper.specs.Limits.{mostBytes}
 use Rattle.paper.specs.Judged
 use Rattle.paper.specs.Judged.{Judged, fault, says}
-use Rattle.paper.specs.Lines.{Line, takeLine, Said, judgedLine}
-use Rattle.paper.specs.Fields.{all, each, number, entries, token}
-use Rattle.paper.specs.Certificate.{Certificate, Kind, Budget, Arities, States, Final, Trans, BadStates, BadFinal, BadTrans, Rules, Merge, Row, row}
-use Rattle.paper.specs.Tables.{numbers, numbersOf, within, one, list, arityList, finalList, lastOf, transitionOf, fromNumbers, transition, classList}
-use Rattle.paper.specs.Sides.{termOf, term, leftSide, rightSide}
-use Rattle.paper.specs.Format.{Reading, refused, gave, Reader, goOn, _>>=_, _>>_, give, onLine, lineOf, fixed, times, rule, end, certificate, File, malformed, holds, wholeFile, readFile}
+use Rattle.paper.specs.Lines.{takeLine, Said, judgedLine}
+use Rattle.paper.specs.Fields.{each, number, entries, token}
+use Rattle.paper.specs.Certificate.{Certificate, Kind, Budget, Arities, States, Final, Trans, BadStates, BadFinal, BadTrans, Rules, Merge, row}
+use Rattle.paper.specs.Tables.{numbers, numbersOf, one, list, arityList, finalList, lastOf, transitionOf, fromNumbers, transition, classList}
+use Rattle.paper.specs.Sides.{term, leftSide, rightSide}
+use Rattle.paper.specs.Format.{Reading, refused, gave, Reader, goOn, _>>=_, _>>_, give, onLine, lineOf, fixed, times, rule, end, certificate, holds, wholeFile, readFile}
 use Rattle.paper.specs.Answer.{decimal, decimals, lineWith}
 use Rattle.paper.specs.Spelling.{tokenText, tokensText, together, fixedText, transitionText, ruleText, fileOf}
 use Rattle.paper.proofs.Smallest.{decided}
-use Rattle.paper.proofs.Judged.{silent, parts, Says, said, passed, spoken, anything}
-use Rattle.paper.proofs.Lines.{take-exact, joined, Entries, entries-sound}
+use Rattle.paper.proofs.Judged.{silent, parts, Says, said, passed, spoken}
+use Rattle.paper.proofs.Lines.{take-exact, joined, entries-sound}
 use Rattle.paper.proofs.Numbers.{number-exact}
 use Rattle.paper.proofs.Preorder.{preorder-exact}
 

@@ -1,17 +1,16 @@
 -- Every verdict on a file has small numbers, so that answers tell verdicts apart.
-use mathlib.Core.Path.{_≡_, refl, sym, ap, _∙_}
-use mathlib.Core.Logic.{_⊎_, inl, inr}
-use mathlib.Core.List.{List, [], _∷_, List·Memᴰ, List·Memᴰ·head, Memᴰ·append-right}
-use mathlib.Core.Option.{Option, none, some}
-use Prim.Native.Nat.{ℕ, suc, _^_, _≤_, _<_}
+use mathlib.Core.Path.{_≡_, refl}
+use mathlib.Core.Logic.{inl, inr}
+use mathlib.Core.List.{List, List·Memᴰ·head, Memᴰ·append-right}
+use mathlib.Core.Option.{Option}
+use Prim.Native.Nat.{ℕ}
 use native.Mathlib.Omega.{arith}
 use Rattle.theory.specs.Rewriting.{variableCount}
 use Rattle.theory.specs.Merging.{classes, merged}
 use Rattle.theory.proofs.Merged.{merged-in-range}
 use Rattle.theory.proofs.Search.{substitutions-sound, left-below}
-use Rattle.paper.specs.Limits.{mostDigits}
 use Rattle.paper.specs.Certificate.{Certificate}
-use Rattle.paper.specs.Format.{malformed as refused, holds, readFile, Refusal, too-long, on-line}
+use Rattle.paper.specs.Format.{holds, Refusal, too-long, on-line}
 use Rattle.paper.specs.Verdict.{Verdict, malformed, unsuitable, critical, accepted, stopped, verdict, verdictOn, verdictOf}
 use Rattle.paper.specs.Meaning.{Means, Given}
 use Rattle.paper.specs.WellFormed.{WellFormed}

@@ -1,18 +1,16 @@
 -- A certificate file, read line by line: the first faulty line refuses it.
-use mathlib.Core.Bool.{Bool, true, false}
+use mathlib.Core.Bool.{true, false}
 use mathlib.Core.List.{List, [], _∷_}
 use mathlib.Core.Option.{Option, none, some}
 use Prim.Native.Nat.{ℕ, zero, suc, _≤_}
 use Prim.Native.String.{String}
 use lib.Dec.{leb}
 use lib.ListN.{length}
-use Rattle.theory.specs.Term.{Term}
-use Rattle.theory.specs.Automaton.{Automaton, Transition}
 use Rattle.theory.specs.Rewriting.{Rule}
 use Rattle.paper.specs.Limits.{mostBytes}
 use Rattle.paper.specs.Judged.{Judged, fault, says}
 use Rattle.paper.specs.Lines.{Said, judgedLine}
-use Rattle.paper.specs.Certificate.{Certificate, Kind, Budget, Arities, States, Final, Trans, BadStates, BadFinal, BadTrans, Rules, Merge, Row, row}
+use Rattle.paper.specs.Certificate.{Certificate, Kind, Budget, Arities, States, Final, Trans, BadStates, BadFinal, BadTrans, Rules, Merge, row}
 use Rattle.paper.specs.Tables.{one, arityList, finalList, transition, classList}
 use Rattle.paper.specs.Sides.{leftSide, rightSide}
 

@@ -1,4 +1,4 @@
-// The search for the first critical pair: all classes of a rule's last variable at once, prefixes under which the left side has no class passed over whole, and of the third of four variables only those classes looked at with which there is a critical pair.
+// The search for the first critical pair: all classes of a rule's last variable at once, prefixes under which the left side has no class passed over whole, and of the third of four variables only the suspected classes looked at one by one.
 use lanes::block::alive;
 use lanes::block::block;
 use lanes::block::critical;

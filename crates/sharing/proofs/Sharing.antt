@@ -1,25 +1,24 @@
 -- Sharing: a step adds only pairs that share a tree, and pairs to which no step adds hold all that do. Assumes nothing.
 use mathlib.Core.Path.{_≡_, refl, sym, ap, ap₂, _∙_, subst, subst₂}
-use mathlib.Core.Logic.{_⊎_, inl, inr, ⊎-elim}
+use mathlib.Core.Logic.{_⊎_, ⊎-elim}
 use mathlib.Core.Bool.{Bool, true, false, _&&_, _||_, or-true, false≢true, true≢false, cond}
 use mathlib.Core.List.{List, [], _∷_}
 use Prim.Native.Nat.{ℕ, zero, suc, _+_, _-_, _*_, _/_, _^_, _≤_, _<_}
 use native.Mathlib.Decide.{ℕ-discrete}
 use native.Mathlib.Omega.{arith}
 use lib.Dec.{eqb, leb}
-use lib.ListN.{length, getD, take, set, length-set, replicate}
+use lib.ListN.{length, getD, take, set, length-set}
 use lib.Seq.{getD-set-same, getD-set-other}
-use borrow.Author.Tests.{eq-eqb, eqb-true, leb-true, le-leb, lt-leb}
+use borrow.Author.Tests.{eq-eqb, eqb-true}
 use Rattle.sets.specs.Sets.{Set, mem, plus}
-use Rattle.theory.specs.Automaton.{Automaton}
 use Rattle.theory.specs.Critical.{Share}
 use Rattle.theory.specs.Sharing.{pairwise}
 use Rattle.theory.proofs.Tests.{retarget}
 use Rattle.theory.proofs.Joined.{Joined, joined-complete, joined-shares, catches}
 use Rattle.tables.specs.Held.{moveAt}
 use Rattle.tables.proofs.Moves.{move-row, row-move}
-use Rattle.sharing.specs.Share.{flat, Small, arg, rel, joins, ClosedAt, Sound, Words, sum, Grown, SweptTo, PassedTo, Exact, Tables}
-use Rattle.theory.proofs.Bools.{or-on, or-off, or-cases, and-both, and-true₂, not-both}
+use Rattle.sharing.specs.Share.{flat, arg, rel, joins, ClosedAt, Sound, Words, sum, Grown, PassedTo, Exact, Tables}
+use Rattle.theory.proofs.Bools.{or-cases, and-both, and-true₂, not-both}
 
 and-last : (a b c : Bool) → (a && (b && (c && true))) ≡ (a && (b && c))
 and-last true true true = refl

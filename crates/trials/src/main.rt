@@ -3,7 +3,6 @@ use libc::STDIN_FILENO;
 use libc::STDOUT_FILENO;
 ghost use mathlib.Core.Path.{_≡_};
 ghost use Prim.Native.Nat.{_+_, _*_};
-ghost use lib.ListN.{getD};
 
 // The most certificates in one run: nothing says that the input ends.
 const MOST: u32 = 1000000;

@@ -1,6 +1,6 @@
 -- Words gathered one after the other.
 use mathlib.Core.Path.{_≡_, refl, sym, ap, ap₂, _∙_, fun-ext}
-use mathlib.Core.Bool.{Bool, true, false, _&&_, _||_, or-false}
+use mathlib.Core.Bool.{Bool, true, false, _&&_, _||_, or-false, or-assoc}
 use mathlib.Core.List.{List, [], _∷_, map}
 use Prim.Native.Nat.{ℕ, zero, suc, _+_, _-_, _≤_, _<_}
 use native.Mathlib.Nat.{add-zero, zero-add}
@@ -19,17 +19,13 @@ use Rattle.values.specs.Sets.{drawn, fires, gathered}
 use Rattle.values.specs.Lanes.{lane, Blank}
 use Rattle.values.proofs.Matrix.{blank-lane, held, held-put, held-more}
 
-or-assoc : (a b c : Bool) → (a || (b || c)) ≡ ((a || b) || c)
-or-assoc true b c = refl
-or-assoc false b c = refl
-
 -- One number more.
 some-last : {Y : Type 0} (g : ℕ → Y) (test : Y → Bool) (a n : ℕ) → some (map g (countFrom a (suc n))) test ≡ (some (map g (countFrom a n)) test || test (g (a + n)))
 unfolding some countFrom
 some-last g test a zero = or-false (test (g a)) ∙ ap (λ k. test (g k)) (sym (add-zero a))
 some-last g test a (suc n) =
     ap (λ b. test (g a) || b) (some-last g test (suc a) n)
-    ∙ or-assoc (test (g a)) (some (map g (countFrom (suc a) n)) test) (test (g (suc a + n)))
+    ∙ sym (or-assoc (test (g a)) (some (map g (countFrom (suc a) n)) test) (test (g (suc a + n))))
     ∙ ap (λ k. some (map g (countFrom a (suc n))) test || test (g k)) (omega arith)
 
 module _ (arities words : List ℕ) (f : ℕ) (ss : List Set) where

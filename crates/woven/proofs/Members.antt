@@ -1,12 +1,12 @@
 -- A term's value, and so the whole search, goes by which transitions there are: neither their order nor a repetition counts, nor which states are final.
 use mathlib.Core.Path.{_≡_, refl, sym, fun-ext}
 use mathlib.Core.Bool.{Bool, true, false, _&&_, not}
-use mathlib.Core.List.{List, [], _∷_, List·Memᴰ}
+use mathlib.Core.List.{List, [], _∷_}
 use mathlib.Core.Option.{none, some}
 use Prim.Native.Nat.{ℕ, zero, suc}
-use Rattle.theory.specs.Term.{Term, Terms}
+use Rattle.theory.specs.Term.{Term}
 use Rattle.theory.specs.Rewriting.{Rule}
-use Rattle.theory.specs.Automaton.{Automaton, Transition, Gives, GivesAll, variable, symbol, nothing, _next_}
+use Rattle.theory.specs.Automaton.{Automaton}
 use Rattle.theory.specs.Value.{value}
 use Rattle.theory.specs.Critical.{entry}
 use Rattle.theory.specs.Search.{critical as isCritical}

@@ -1,6 +1,6 @@
 -- `sharing::arg_in` meets its contract. Assumes nothing.
 use borrow.Author.Needs.{needs}
-use mathlib.Core.Path.{_≡_, sym, ap, _∙_, subst}
+use mathlib.Core.Path.{sym, ap, _∙_, subst}
 use Prim.Native.Nat.{ℕ, _<_}
 use Rattle.sets.specs.Sets.{mem}
 use Rattle.sharing.proofs.arg_in.Statement.{statement}

@@ -1,13 +1,13 @@
 -- `sharing::rows_join` meets its contract: each return rewrites with the tests that led there. Assumes nothing.
 use native.Mathlib.Omega.{arith}
-use mathlib.Core.Path.{_≡_, sym, ap, _∙_}
+use mathlib.Core.Path.{sym, ap, _∙_}
 use mathlib.Core.Bool.{_||_}
 use lib.Dec.{leb}
 use borrow.Author.Tests.{eq-eqb, ne-eqb}
 use Rattle.sharing.specs.Share.{joins, rel}
 use Rattle.sharing.specs.Share.{arg}
 use Rattle.theory.proofs.Bools.{and-on, and-off}
-use Prim.Native.Nat.{ℕ, _*_}
+use Prim.Native.Nat.{ℕ}
 use borrow.Author.Needs.{needs}
 use Rattle.sharing.proofs.rows_join.Statement.{statement}
 use Rattle.sharing.proofs.rows_join.Tie as tie

@@ -1,17 +1,14 @@
 -- `sharing::share` meets its contract. The invariant: the pairs hold only pairs that share a tree, and when nothing more is added, all that the tables close. Assumes nothing.
-use borrow.Author.Needs.{needs}
-use native.Mathlib.Omega.{arith}
 use mathlib.Core.Path.{_≡_, refl, sym, ap, _∙_, subst}
 use mathlib.Core.Bool.{Bool, true, false, cond}
 use mathlib.Core.List.{List}
 use Prim.Native.Nat.{ℕ, _+_, _-_, _*_, _/_, _^_, _≤_, _<_}
-use lib.ListN.{length, getD}
+use lib.ListN.{length}
 use Rattle.sharing.specs.Share.{Sound, Words, PassedTo, sum}
 use Rattle.sharing.proofs.Sharing.{sum-most, exact, falls}
 use Rattle.sets.specs.Sets.{Set, mem}
 use Rattle.sets.proofs.Laws.{mem-zero}
 use mathlib.Core.Bool.{true≢false, false≢true}
-use lib.ListN.{replicate}
 use lib.Dec.{lit<}
 use Rattle.sharing.proofs.share.Statement.{statement}
 use Rattle.sharing.proofs.share.Tie as tie

@@ -1,6 +1,6 @@
 -- `sharing::visit` meets its contract: the three ways out are laws of `Sharing.antt`. Assumes nothing.
 use native.Mathlib.Omega.{arith}
-use mathlib.Core.Path.{_≡_, sym, ap, _∙_, subst}
+use mathlib.Core.Path.{sym, ap, _∙_, subst}
 use Prim.Native.Nat.{ℕ, _+_, _*_, _<_}
 use Rattle.sets.specs.Sets.{mem, plus}
 use lib.ListN.{getD}

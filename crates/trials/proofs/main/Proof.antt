@@ -1,7 +1,6 @@
 -- `trials::main` meets its contract. The invariant: the buffer keeps its length. The measure: how many certificates are left.
 use mathlib.Core.Path.{_≡_}
 use borrow.Author.Needs.{needs}
-use native.Mathlib.Omega.{arith}
 use Rattle.trials.proofs.main.Statement.{statement}
 use Rattle.trials.proofs.main.Tie as tie
 

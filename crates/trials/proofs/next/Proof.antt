@@ -1,7 +1,6 @@
 -- `trials::next` meets its contract: the parts that are lent are as long as they are said to be.
 use mathlib.Core.Path.{sym}
 use lib.Seq.{length-take-le}
-use native.Mathlib.Omega.{arith}
 use borrow.Author.Needs.{needs}
 use Rattle.trials.proofs.next.Statement.{statement}
 use Rattle.trials.proofs.next.Tie as tie

@@ -8,21 +8,17 @@ use borrow.Author.Needs.{needs}
 use Rattle.values.proofs.arity.Statement.{statement}
 use Rattle.values.proofs.arity.Tie as tie
 
--- src/lib.rt:27:9
 place-requires : tie.Need-place-requires
 place-requires c κs = search needs
 
--- src/lib.rt:28:22
 element-copy-out-result : tie.Need-element-copy-out-result
 element-copy-out-result c = search needs
 
--- src/lib.rt:23:1
 returns : tie.Need-returns
 returns c =
     let a = c .before .before .before .args in
     ap (λ (i : ℕ). getD (a .arities .now) i 0) (c .before .before .place .ensures) ∙ sym (getD-take (a .symbols) (a .arities .now) (a .f) 0 (omega (arith, c .before .before .place .ensures, c .before .if1 .taken)))
 
--- src/lib.rt:23:1
 returns-2 : tie.Need-returns-2
 returns-2 c =
     let a = c .before .before .args in

@@ -6,15 +6,12 @@ use borrow.Author.Needs.{needs}
 use Rattle.values.proofs.code_of.Statement.{statement}
 use Rattle.values.proofs.code_of.Tie as tie
 
--- src/lib.rt:34:16
 element-copy-out-result : tie.Need-element-copy-out-result
 element-copy-out-result c = search needs
 
--- src/lib.rt:30:1
 returns : tie.Need-returns
 returns c = search needs
 
--- src/lib.rt:30:1
 returns-2 : tie.Need-returns-2
 returns-2 c = sym (List·getD-eq-default (c .before .args .codes .now) 0 (omega (arith, c .if1 .left, c .before .pre)))
 

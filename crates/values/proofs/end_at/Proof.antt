@@ -1,20 +1,16 @@
 -- `values::end_at` meets its contract. Assumes nothing.
 use mathlib.Core.Path.{sym}
 use Rattle.values.proofs.Settled.{end-in, end-out}
-use native.Mathlib.Omega.{arith}
 use borrow.Author.Needs.{needs}
 use Rattle.values.proofs.end_at.Statement.{statement}
 use Rattle.values.proofs.end_at.Tie as tie
 
--- src/lib.rt:49:17
 element-copy-out-result : tie.Need-element-copy-out-result
 element-copy-out-result c = search needs
 
--- src/lib.rt:46:1
 returns : tie.Need-returns
 returns c = let a = c .before .before .args in sym (end-in (a .ends .now) (a .i) (c .before .if1 .taken))
 
--- src/lib.rt:46:1
 returns-2 : tie.Need-returns-2
 returns-2 c = let a = c .before .args in sym (end-out (a .ends .now) (a .i) (c .if1 .left))
 

@@ -8,44 +8,34 @@ use borrow.Author.Needs.{needs}
 use Rattle.values.proofs.fill.Statement.{statement}
 use Rattle.values.proofs.fill.Tie as tie
 
--- src/lib.rt:169:9
 fill-class-requires : tie.Need-fill-class-requires
 fill-class-requires c κs = search needs
 
--- src/lib.rt:172:13
 fill-own-requires : tie.Need-fill-own-requires
 fill-own-requires c κs = search needs
 
--- src/lib.rt:175:17
 fill-half-requires : tie.Need-fill-half-requires
 fill-half-requires c κs = search needs
 
--- src/lib.rt:177:33
 fill-any-requires : tie.Need-fill-any-requires
 fill-any-requires c κs = search needs
 
--- src/lib.rt:177:57
 fill-two-requires : tie.Need-fill-two-requires
 fill-two-requires c κs = search needs
 
--- src/lib.rt:164:1
 returns : tie.Need-returns
 returns c = search needs
 
--- src/lib.rt:164:1
 returns-2 : tie.Need-returns-2
 returns-2 c = λ j hj. c .fill-own .ensures j hj ∙ ap (λ (x : ℕ). codeSet x j) (sym (c .before .before .if2 .taken))
 
--- src/lib.rt:164:1
 returns-3 : tie.Need-returns-3
 returns-3 c = λ j hj. c .fill-half .ensures j hj ∙ ap (λ (x : ℕ). codeSet x j) (sym (c .before .before .if3 .taken))
 
--- src/lib.rt:164:1
 returns-4 : tie.Need-returns-4
 returns-4 c =
     λ j hj. c .fill-any .ensures j hj ∙ sym (any-code (c .before .before .before .before .before .before .args .code) j (omega (arith, c .before .before .before .before .before .if1 .left, c .before .before .before .before .if2 .left)) (c .before .before .before .if3 .left) (c .before .before .if4 .taken))
 
--- src/lib.rt:164:1
 returns-5 : tie.Need-returns-5
 returns-5 c = search needs
 

@@ -15,27 +15,21 @@ Inv-loop out₀ q₀ out q = (q ≤ 64) × (length out ≡ 64) × FilledTo (λ p
 abbrev μ-loop : tie.MeasureT-loop
 μ-loop out₀ q₀ out q = 64 - q
 
--- src/lib.rt:126:5
 loop-holds : tie.Need-loop-holds Inv-loop μ-loop
 loop-holds c = (search needs, c .pre .long, filled-none (λ p j. true) (c .args .out .now) (c .pre))
 
--- src/lib.rt:127:9
 mul-out : tie.Need-mul-out Inv-loop μ-loop
 mul-out c = search needs
 
--- src/lib.rt:127:9
 element-write-out : tie.Need-element-write-out Inv-loop μ-loop
 element-write-out c = omega (arith, c .loop-test .taken, c .before .loop .inv .1)
 
--- src/lib.rt:128:9
 add-q : tie.Need-add-q Inv-loop μ-loop
 add-q c = search needs
 
--- src/lib.rt:126:5
 loop-less : tie.Need-loop-less Inv-loop μ-loop
 loop-less c = search needs
 
--- src/lib.rt:126:5
 loop-again : tie.Need-loop-again Inv-loop μ-loop
 loop-again c =
     let at = c .before .loop in (
@@ -44,7 +38,6 @@ loop-again c =
       filled-more (λ p j. true) (at .out) (at .q) 18446744073709551615 (omega (arith, c .loop-test .taken, at .inv .1)) all-lanes (at .inv .2),
     )
 
--- src/lib.rt:121:1
 returns : tie.Need-returns Inv-loop μ-loop
 returns c = λ j hj. any-is (c .before .loop .out) (c .before .loop .q) j (omega (arith, c .before .loop .inv .0, c .loop-test .left)) hj (c .before .loop .inv .2)
 

@@ -18,39 +18,30 @@ Inv-loop out₀ q₀ out q = (q ≤ 32) × (length out ≡ 64) × FilledTo twice
 abbrev μ-loop : tie.MeasureT-loop
 μ-loop out₀ q₀ out q = 32 - q
 
--- src/lib.rt:146:5
 loop-holds : tie.Need-loop-holds Inv-loop μ-loop
 loop-holds c = (search needs, c .pre .long, filled-none twice (c .args .out .now) (c .pre))
 
--- src/lib.rt:148:18
 only-requires : tie.Need-only-requires Inv-loop μ-loop
 only-requires c κs = search needs
 
--- src/lib.rt:148:37
 add-only : tie.Need-add-only Inv-loop μ-loop
 add-only c = search needs
 
--- src/lib.rt:148:32
 only-requires-2 : tie.Need-only-requires-2 Inv-loop μ-loop
 only-requires-2 c κs = search needs
 
--- src/lib.rt:148:9
 mul-out : tie.Need-mul-out Inv-loop μ-loop
 mul-out c = search needs
 
--- src/lib.rt:148:9
 element-write-out : tie.Need-element-write-out Inv-loop μ-loop
 element-write-out c = omega (arith, c .before .before .loop-test .taken, c .before .before .before .loop .inv .1)
 
--- src/lib.rt:149:9
 add-q : tie.Need-add-q Inv-loop μ-loop
 add-q c = search needs
 
--- src/lib.rt:146:5
 loop-less : tie.Need-loop-less Inv-loop μ-loop
 loop-less c = search needs
 
--- src/lib.rt:146:5
 loop-again : tie.Need-loop-again Inv-loop μ-loop
 loop-again c =
     let at = c .before .before .before .loop in
@@ -60,7 +51,6 @@ loop-again c =
       filled-more twice (at .out) (at .q) word (omega (arith, c .before .before .loop-test .taken, at .inv .1)) (λ j hj. mem-or (c .before .only .result) (c .only2 .result) j ∙ ap₂ _||_ (ap (λ (s : Set). s j) (c .before .only .ensures)) (ap (λ (s : Set). s j) (c .only2 .ensures))) (at .inv .2),
     )
 
--- src/lib.rt:141:1
 returns : tie.Need-returns Inv-loop μ-loop
 returns c = λ j hj. half-is (c .before .loop .out) (c .before .loop .q) j (omega (arith, c .before .loop .inv .0, c .loop-test .left)) hj (c .before .loop .inv .2)
 

@@ -16,31 +16,24 @@ Inv-loop out₀ q₀ out q = (q ≤ 64) × (length out ≡ 64) × FilledTo eqb q
 abbrev μ-loop : tie.MeasureT-loop
 μ-loop out₀ q₀ out q = 64 - q
 
--- src/lib.rt:114:5
 loop-holds : tie.Need-loop-holds Inv-loop μ-loop
 loop-holds c = (search needs, c .pre .long, filled-none eqb (c .args .out .now) (c .pre))
 
--- src/lib.rt:115:18
 only-requires : tie.Need-only-requires Inv-loop μ-loop
 only-requires c κs = search needs
 
--- src/lib.rt:115:9
 mul-out : tie.Need-mul-out Inv-loop μ-loop
 mul-out c = search needs
 
--- src/lib.rt:115:9
 element-write-out : tie.Need-element-write-out Inv-loop μ-loop
 element-write-out c = omega (arith, c .before .loop-test .taken, c .before .before .loop .inv .1)
 
--- src/lib.rt:116:9
 add-q : tie.Need-add-q Inv-loop μ-loop
 add-q c = search needs
 
--- src/lib.rt:114:5
 loop-less : tie.Need-loop-less Inv-loop μ-loop
 loop-less c = search needs
 
--- src/lib.rt:114:5
 loop-again : tie.Need-loop-again Inv-loop μ-loop
 loop-again c =
     let at = c .before .before .loop in (
@@ -49,7 +42,6 @@ loop-again c =
       filled-more eqb (at .out) (at .q) (c .only .result) (omega (arith, c .before .loop-test .taken, at .inv .1)) (λ j hj. ap (λ (s : Set). s j) (c .only .ensures)) (at .inv .2),
     )
 
--- src/lib.rt:109:1
 returns : tie.Need-returns Inv-loop μ-loop
 returns c = λ j hj. own-is (c .before .loop .out) (c .before .loop .q) j (omega (arith, c .before .loop .inv .0, c .loop-test .left)) hj (c .before .loop .inv .2)
 

@@ -1,43 +1,30 @@
 -- `values::fill_two` meets its contract. Assumes nothing.
-use mathlib.Core.Path.{_∙_}
-use Prim.Native.Nat.{ℕ, _+_, _%_}
-use lib.ListN.{set, length-set}
-use Rattle.values.specs.Lanes.{lane, codeSet}
 use Rattle.values.proofs.Matrix.{two-is}
-use native.Mathlib.Omega.{arith}
 use borrow.Author.Needs.{needs}
 use Rattle.values.proofs.fill_two.Statement.{statement}
 use Rattle.values.proofs.fill_two.Tie as tie
 
--- src/lib.rt:158:9
 place-requires : tie.Need-place-requires
 place-requires c κs = search needs
 
--- src/lib.rt:159:5
 mul-out : tie.Need-mul-out
 mul-out c = search needs
 
--- src/lib.rt:159:5
 element-write-out : tie.Need-element-write-out
 element-write-out c = search needs
 
--- src/lib.rt:160:25
 minus-requires : tie.Need-minus-requires
 minus-requires c κs = search needs
 
--- src/lib.rt:160:10
 add-out : tie.Need-add-out
 add-out c = search needs
 
--- src/lib.rt:160:5
 mul-out-2 : tie.Need-mul-out-2
 mul-out-2 c = search needs
 
--- src/lib.rt:160:5
 element-write-out-2 : tie.Need-element-write-out-2
 element-write-out-2 c = search needs
 
--- src/lib.rt:154:1
 returns : tie.Need-returns
 returns c =
     let start = c .before .before in

@@ -20,31 +20,24 @@ Inv-loop words heads f n a b c out₀ at end i₀ target₀ lanes₀ out i targe
 abbrev μ-loop : tie.MeasureT-loop
 μ-loop words heads f n a b c out₀ at end i₀ target₀ lanes₀ out i target lanes = end - i
 
--- src/lib.rt:79:9
 place-requires : tie.Need-place-requires Inv-loop μ-loop
 place-requires c κs = search needs
 
--- src/lib.rt:80:27
 add-place : tie.Need-add-place Inv-loop μ-loop
 add-place c = omega (arith, c .place .ensures, c .before .pre .1)
 
--- src/lib.rt:80:21
 element-copy-out-place : tie.Need-element-copy-out-place Inv-loop μ-loop
 element-copy-out-place c = omega (arith, c .place .ensures, c .before .pre .1)
 
--- src/lib.rt:80:9
 place-requires-2 : tie.Need-place-requires-2 Inv-loop μ-loop
 place-requires-2 c κs = search needs
 
--- src/lib.rt:81:23
 element-copy-out-place-2 : tie.Need-element-copy-out-place-2 Inv-loop μ-loop
 element-copy-out-place-2 c = omega (arith, c .before .before .place .ensures, c .before .before .before .pre .1)
 
--- src/lib.rt:81:9
 place-requires-3 : tie.Need-place-requires-3 Inv-loop μ-loop
 place-requires-3 c κs = search needs
 
--- src/lib.rt:84:5
 loop-holds : tie.Need-loop-holds Inv-loop μ-loop
 loop-holds c =
     let start = c .before .before .before .before .before in
@@ -60,50 +53,39 @@ loop-holds c =
       (λ arities e j hj. held-none (a .out .now) 0 j ∙ gather-start arities (a .words .now) (a .f) (sets j) (a .heads .now) (start .pre .0) (start .pre .1) (a .out .now) (start .pre .4) j ∙ ap (upTo arities (a .words .now) (a .f) (sets j)) (sym first)),
     )
 
--- src/lib.rt:85:17
 mul-w : tie.Need-mul-w Inv-loop μ-loop
 mul-w c =
     let start = c .before .before .before .before .before .before .before in omega (arith, c .loop-test .taken, c .before .loop .inv .1, within (start .args .words .now) (start .args .heads .now) (start .pre .0) (start .args .f) (start .pre .1), start .pre .0 .room)
 
--- src/lib.rt:85:17
 element-copy-out-w : tie.Need-element-copy-out-w Inv-loop μ-loop
 element-copy-out-w c =
     let start = c .before .before .before .before .before .before .before in omega (arith, c .loop-test .taken, c .before .loop .inv .1, within (start .args .words .now) (start .args .heads .now) (start .pre .0) (start .args .f) (start .pre .1), start .pre .0 .room)
 
--- src/lib.rt:86:13
 part-of-requires : tie.Need-part-of-requires Inv-loop μ-loop
 part-of-requires c κs = search needs
 
--- src/lib.rt:88:27
 mul-out : tie.Need-mul-out Inv-loop μ-loop
 mul-out c = search needs
 
--- src/lib.rt:88:27
 element-copy-out-out : tie.Need-element-copy-out-out Inv-loop μ-loop
 element-copy-out-out c = omega (arith, c .before .before .before .before .loop .inv .4)
 
--- src/lib.rt:88:13
 mul-out-2 : tie.Need-mul-out-2 Inv-loop μ-loop
 mul-out-2 c = search needs
 
--- src/lib.rt:88:13
 element-write-out : tie.Need-element-write-out Inv-loop μ-loop
 element-write-out c = omega (arith, c .before .before .before .before .before .loop .inv .0, c .before .before .before .before .before .loop .inv .4)
 
--- src/lib.rt:92:25
 drawn-lanes-requires : tie.Need-drawn-lanes-requires Inv-loop μ-loop
 drawn-lanes-requires c κs = (c .before .before .before .before .before .before .before .before .before .before .pre .2, c .before .before .before .before .before .before .before .before .before .before .pre .3)
 
--- src/lib.rt:93:9
 add-i : tie.Need-add-i Inv-loop μ-loop
 add-i c =
     let start = c .before .before .before .before .before .before .before .before .before .before .before .before in omega (arith, c .before .before .before .before .before .loop-test .taken, c .before .before .before .before .before .before .loop .inv .1, within (start .args .words .now) (start .args .heads .now) (start .pre .0) (start .args .f) (start .pre .1), start .pre .0 .room)
 
--- src/lib.rt:84:5
 loop-less : tie.Need-loop-less Inv-loop μ-loop
 loop-less c = omega (arith, c .before .before .before .before .before .loop-test .taken)
 
--- src/lib.rt:84:5
 loop-again : tie.Need-loop-again Inv-loop μ-loop
 loop-again c =
     let start = c .before .before .before .before .before .before .before .before .before .before .before .before in
@@ -130,23 +112,18 @@ loop-again c =
           (if1 .target) (if1 .lanes) (begun .1 ∙ next .ensures .0) (begun .2 j ∙ at .inv .5 arities e j hj)),
     )
 
--- src/lib.rt:95:19
 mul-out-3 : tie.Need-mul-out-3 Inv-loop μ-loop
 mul-out-3 c = search needs
 
--- src/lib.rt:95:19
 element-copy-out-out-2 : tie.Need-element-copy-out-out-2 Inv-loop μ-loop
 element-copy-out-out-2 c = omega (arith, c .before .loop .inv .4)
 
--- src/lib.rt:95:5
 mul-out-4 : tie.Need-mul-out-4 Inv-loop μ-loop
 mul-out-4 c = search needs
 
--- src/lib.rt:95:5
 element-write-out-2 : tie.Need-element-write-out-2 Inv-loop μ-loop
 element-write-out-2 c = omega (arith, c .before .before .loop .inv .0, c .before .before .loop .inv .4)
 
--- src/lib.rt:66:1
 returns : tie.Need-returns Inv-loop μ-loop
 returns c =
     let start = c .before .before .before .before .before .before .before .before in

@@ -21,31 +21,24 @@ Inv-loop words heads f out₀ at end i₀ out i = (length out ≡ 64) × (end �
 abbrev μ-loop : tie.MeasureT-loop
 μ-loop words heads f out₀ at end i₀ out i = end - i
 
--- src/lib.rt:90:9
 place-requires : tie.Need-place-requires Inv-loop μ-loop
 place-requires c κs = search needs
 
--- src/lib.rt:91:27
 add-place : tie.Need-add-place Inv-loop μ-loop
 add-place c = omega (arith, c .place .ensures, c .before .pre .1)
 
--- src/lib.rt:91:21
 element-copy-out-place : tie.Need-element-copy-out-place Inv-loop μ-loop
 element-copy-out-place c = omega (arith, c .place .ensures, c .before .pre .1)
 
--- src/lib.rt:91:9
 place-requires-2 : tie.Need-place-requires-2 Inv-loop μ-loop
 place-requires-2 c κs = search needs
 
--- src/lib.rt:92:23
 element-copy-out-place-2 : tie.Need-element-copy-out-place-2 Inv-loop μ-loop
 element-copy-out-place-2 c = omega (arith, c .before .before .place .ensures, c .before .before .before .pre .1)
 
--- src/lib.rt:92:9
 place-requires-3 : tie.Need-place-requires-3 Inv-loop μ-loop
 place-requires-3 c κs = search needs
 
--- src/lib.rt:93:5
 loop-holds : tie.Need-loop-holds Inv-loop μ-loop
 loop-holds c =
     let start = c .before .before .before .before .before in
@@ -59,46 +52,36 @@ loop-holds c =
       (λ arities e j hj. gather-start arities (a .words .now) (a .f) [] (a .heads .now) (start .pre .0) (start .pre .1) (a .out .now) (c .before .before .before .before .before .pre .2) j ∙ ap (upTo arities (a .words .now) (a .f) []) (sym first)),
     )
 
--- src/lib.rt:94:30
 mul-part-of : tie.Need-mul-part-of Inv-loop μ-loop
 mul-part-of c =
     omega (arith, c .loop-test .taken, c .before .loop .inv .1, within (c .before .before .before .before .before .before .before .args .words .now) (c .before .before .before .before .before .before .before .args .heads .now) (c .before .before .before .before .before .before .before .pre .0) (c .before .before .before .before .before .before .before .args .f) (c .before .before .before .before .before .before .before .pre .1), c .before .before .before .before .before .before .before .pre .0 .room)
 
--- src/lib.rt:94:30
 element-copy-out-part-of : tie.Need-element-copy-out-part-of Inv-loop μ-loop
 element-copy-out-part-of c =
     omega (arith, c .loop-test .taken, c .before .loop .inv .1, within (c .before .before .before .before .before .before .before .args .words .now) (c .before .before .before .before .before .before .before .args .heads .now) (c .before .before .before .before .before .before .before .pre .0) (c .before .before .before .before .before .before .before .args .f) (c .before .before .before .before .before .before .before .pre .1), c .before .before .before .before .before .before .before .pre .0 .room)
 
--- src/lib.rt:94:13
 part-of-requires : tie.Need-part-of-requires Inv-loop μ-loop
 part-of-requires c κs = search needs
 
--- src/lib.rt:95:23
 mul-out : tie.Need-mul-out Inv-loop μ-loop
 mul-out c = search needs
 
--- src/lib.rt:95:23
 element-copy-out-out : tie.Need-element-copy-out-out Inv-loop μ-loop
 element-copy-out-out c = omega (arith, c .part-of .ensures .1)
 
--- src/lib.rt:95:9
 mul-out-2 : tie.Need-mul-out-2 Inv-loop μ-loop
 mul-out-2 c = search needs
 
--- src/lib.rt:95:9
 element-write-out : tie.Need-element-write-out Inv-loop μ-loop
 element-write-out c = omega (arith, c .before .part-of .ensures .1, c .before .before .before .before .loop .inv .0)
 
--- src/lib.rt:96:9
 add-i : tie.Need-add-i Inv-loop μ-loop
 add-i c =
     omega (arith, c .before .before .before .loop-test .taken, c .before .before .before .before .loop .inv .1, within (c .before .before .before .before .before .before .before .before .before .before .args .words .now) (c .before .before .before .before .before .before .before .before .before .before .args .heads .now) (c .before .before .before .before .before .before .before .before .before .before .pre .0) (c .before .before .before .before .before .before .before .before .before .before .args .f) (c .before .before .before .before .before .before .before .before .before .before .pre .1), c .before .before .before .before .before .before .before .before .before .before .pre .0 .room)
 
--- src/lib.rt:93:5
 loop-less : tie.Need-loop-less Inv-loop μ-loop
 loop-less c = omega (arith, c .before .before .before .loop-test .taken)
 
--- src/lib.rt:93:5
 loop-again : tie.Need-loop-again Inv-loop μ-loop
 unfolding drawn
 loop-again c =
@@ -118,7 +101,6 @@ loop-again c =
           (omega (arith, c .before .part-of .ensures, at .inv .0)) (at .inv .4 arities e j hj)),
     )
 
--- src/lib.rt:86:1
 returns : tie.Need-returns Inv-loop μ-loop
 returns c =
     let start = c .before .before .before .before .before .before .before in

@@ -8,15 +8,12 @@ use borrow.Author.Needs.{needs}
 use Rattle.values.proofs.part_of.Statement.{statement}
 use Rattle.values.proofs.part_of.Tie as tie
 
--- src/lib.rt:34:13
 mul-result : tie.Need-mul-result
 mul-result c = search needs
 
--- src/lib.rt:34:7
 shr-result : tie.Need-shr-result
 shr-result c = search needs
 
--- src/lib.rt:30:1
 returns : tie.Need-returns
 unfolding part
 returns c = (refl, mod-lt (c .args .w / 2 ^ (8 * c .args .i)) (lit< tt))

@@ -1,9 +1,9 @@
 -- `checker::export::mergecheck` meets its contract: the number and the length in one.
-use mathlib.Core.Path.{_≡_, ap}
+use mathlib.Core.Path.{ap}
 use denote.Ref.{now}
 use native.Mathlib.Omega.{arith}
 use borrow.Author.Needs.{needs}
-use Rattle.paper.specs.Contract.{Returned, returned}
+use Rattle.paper.specs.Contract.{Returned}
 use Rattle.checker.specs.Gave.{packed}
 use Rattle.checker.proofs.Laws.{written-short}
 use Rattle.checker.proofs.export.mergecheck.Statement.{statement}

@@ -1,9 +1,8 @@
 -- `judge::merging::final_classes` meets its contract. The invariant: the classes of the final states before q.
-use Prim.Native.Nat.{_-_, _≤_, _+_}
+use Prim.Native.Nat.{_-_, _≤_}
 use native.Mathlib.Omega.{arith}
-use mathlib.Core.Path.{_≡_, subst, sym, ap, _∙_}
+use mathlib.Core.Path.{_≡_, sym, ap, _∙_}
 use mathlib.Core.Logic.{⊎-elim}
-use borrow.Author.Needs.{needs}
 use Rattle.sets.specs.Sets.{mem}
 use Rattle.judge.specs.Merged.{finalClass}
 use Rattle.judge.proofs.Merge.{final-start, final-on, final-off}

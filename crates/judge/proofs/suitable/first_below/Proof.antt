@@ -2,7 +2,6 @@
 use Prim.Native.Nat.{_-_, _≤_}
 use native.Mathlib.Omega.{arith}
 use mathlib.Core.Path.{_≡_, sym, ap, _∙_}
-use borrow.Author.Needs.{needs}
 use Rattle.sets.specs.Sets.{mem}
 use Rattle.paper.specs.Verdict.{smallest}
 use Rattle.judge.specs.Pairs.{saidFirst}

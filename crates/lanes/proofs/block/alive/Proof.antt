@@ -6,25 +6,20 @@ use borrow.Author.Needs.{needs}
 use Rattle.lanes.proofs.block.alive.Statement.{statement}
 use Rattle.lanes.proofs.block.alive.Tie as tie
 
--- src/block.rt:106:13
 add-if1 : tie.Need-add-if1
 add-if1 c = search needs
 
--- src/block.rt:107:9
 returns : tie.Need-returns
 returns c =
     let a = c .before .args in
     λ k rule s. all-alive (take (a .symbols) (a .arities .now)) (a .words .now) (a .heads .now) (a .tokens .now) (a .at) k rule s (a .v) (a .i) (a .x0) (a .x1) (c .if1 .taken)
 
--- src/block.rt:110:5
 side-requires : tie.Need-side-requires
 side-requires c κs = (c .before .before .pre .0, c .before .before .pre .1, c .before .before .pre .2, c .before .before .pre .4, c .before .before .pre .5, search needs, blank-new)
 
--- src/block.rt:111:5
 any-requires : tie.Need-any-requires
 any-requires c κs = search needs
 
--- src/block.rt:91:1
 returns-2 : tie.Need-returns-2
 returns-2 c =
     let start = c .before .before .before .before .before in

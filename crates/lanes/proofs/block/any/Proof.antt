@@ -14,32 +14,25 @@ Inv-loop m all₀ q₀ all q = (q ≤ 64) × Missed (λ p j. lane j m p) q all
 abbrev μ-loop : tie.MeasureT-loop
 μ-loop m all₀ q₀ all q = 64 - q
 
--- src/block.rt:60:5
 loop-holds : tie.Need-loop-holds Inv-loop μ-loop
 loop-holds c = (search needs, λ j e p h. absurd (omega arith))
 
--- src/block.rt:61:21
 mul-all : tie.Need-mul-all Inv-loop μ-loop
 mul-all c = search needs
 
--- src/block.rt:61:21
 element-copy-out-all : tie.Need-element-copy-out-all Inv-loop μ-loop
 element-copy-out-all c = search needs
 
--- src/block.rt:62:9
 add-q : tie.Need-add-q Inv-loop μ-loop
 add-q c = search needs
 
--- src/block.rt:60:5
 loop-less : tie.Need-loop-less Inv-loop μ-loop
 loop-less c = search needs
 
--- src/block.rt:60:5
 loop-again : tie.Need-loop-again Inv-loop μ-loop
 loop-again c =
     (omega (arith, c .before .loop-test .taken), missed-more (λ p j. lane j (c .before .before .before .args .m .now) p) (c .before .before .loop .q) (c .before .before .loop .all) _ (λ j. refl) (c .before .before .loop .inv .1))
 
--- src/block.rt:55:1
 returns : tie.Need-returns Inv-loop μ-loop
 returns c = λ j e q h. c .before .loop .inv .1 j e q (omega (arith, c .loop-test .left))
 

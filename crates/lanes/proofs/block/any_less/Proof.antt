@@ -15,45 +15,35 @@ Inv-loop l r all₀ q₀ all q = (q ≤ 64) × Missed (λ p j. less (lane j l) (
 abbrev μ-loop : tie.MeasureT-loop
 μ-loop l r all₀ q₀ all q = 64 - q
 
--- src/block.rt:73:5
 loop-holds : tie.Need-loop-holds Inv-loop μ-loop
 loop-holds c = (search needs, λ j e p h. absurd (omega arith))
 
--- src/block.rt:74:27
 mul-minus : tie.Need-mul-minus Inv-loop μ-loop
 mul-minus c = search needs
 
--- src/block.rt:74:27
 element-copy-out-minus : tie.Need-element-copy-out-minus Inv-loop μ-loop
 element-copy-out-minus c = search needs
 
--- src/block.rt:74:33
 mul-minus-2 : tie.Need-mul-minus-2 Inv-loop μ-loop
 mul-minus-2 c = search needs
 
--- src/block.rt:74:33
 element-copy-out-minus-2 : tie.Need-element-copy-out-minus-2 Inv-loop μ-loop
 element-copy-out-minus-2 c = search needs
 
--- src/block.rt:74:21
 minus-requires : tie.Need-minus-requires Inv-loop μ-loop
 minus-requires c κs = search needs
 
--- src/block.rt:75:9
 add-q : tie.Need-add-q Inv-loop μ-loop
 add-q c = search needs
 
--- src/block.rt:73:5
 loop-less : tie.Need-loop-less Inv-loop μ-loop
 loop-less c = search needs
 
--- src/block.rt:73:5
 loop-again : tie.Need-loop-again Inv-loop μ-loop
 loop-again c =
     let a = c .before .before .before .before .before .args in
     (omega (arith, c .before .before .before .loop-test .taken), missed-more (λ p j. less (lane j (a .l .now)) (lane j (a .r .now)) p) (c .before .before .before .before .loop .q) (c .before .before .before .before .loop .all) (c .minus .result) (λ j. ap (λ (s : Set). s j) (c .minus .ensures)) (c .before .before .before .before .loop .inv .1))
 
--- src/block.rt:68:1
 returns : tie.Need-returns Inv-loop μ-loop
 returns c = λ j e q h. c .before .loop .inv .1 j e q (omega (arith, c .loop-test .left))
 

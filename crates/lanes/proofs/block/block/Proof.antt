@@ -19,23 +19,18 @@ use borrow.Author.Needs.{needs}
 use Rattle.lanes.proofs.block.block.Statement.{statement}
 use Rattle.lanes.proofs.block.block.Tie as tie
 
--- src/block.rt:133:8
 has-requires : tie.Need-has-requires
 has-requires c κs = c .pre .7
 
--- src/block.rt:134:13
 last-requires : tie.Need-last-requires
 last-requires c κs = search needs
 
--- src/block.rt:135:9
 side-requires : tie.Need-side-requires
 side-requires c κs = (c .before .before .before .before .pre .0, c .before .before .before .before .pre .1, c .before .before .before .before .pre .2, c .before .before .before .before .pre .5, c .before .before .before .before .pre .6, c .before .before .before .before .pre .7, c .before .before .before .before .pre .8)
 
--- src/block.rt:136:12
 any-requires : tie.Need-any-requires
 any-requires c κs = search needs
 
--- src/block.rt:137:13
 returns : tie.Need-returns
 returns c =
     let start = c .before .before .before .before .before .before .before .before in
@@ -45,19 +40,15 @@ returns c =
     block-empty ar (a .words .now) (a .heads .now) (a .tokens .now) (a .at) k rule s (a .v) (a .x0) (a .x1) (a .x2) hk (start .pre .4) (start .pre .5) (start .pre .6) (start .pre .7) _ _ (subst (λ (own : ℕ). (t : Term ℕ) (after : List Token) → Spells ar (a .tokens .now) (a .at) t after → (j : ℕ) → j < 64 → lane j (c .before .before .before .side .last .1 .1 .1 .1 .1 .1 .1 .1 .1 .1 .1 .0) ≡ spanned (wovenMoves ar (a .words .now) (getD (a .heads .now) 64 0)) (setsOf (codesOf own 0 (a .x0) (a .x1) (a .x2)) j) t) (c .before .before .before .before .before .last .ensures) (c .before .before .before .side .ensures))
     (λ j q hq. c .before .any .ensures j (ap (λ (z : ℕ). mem z j) (c .if2 .taken) ∙ ap (λ (t : Set). t j) mem-zero) q hq)
 
--- src/block.rt:139:54
 add-side : tie.Need-add-side
 add-side c = omega (arith, within-room (take (c .before .before .before .before .before .before .before .before .args .symbols) (c .before .before .before .before .before .before .before .before .args .arities .now)) (c .before .before .before .before .before .before .before .before .args .tokens .now) (c .before .before .before .before .before .before .before .before .args .at + 24) (c .before .before .before .before .before .before .before .before .pre .3))
 
--- src/block.rt:139:9
 side-requires-2 : tie.Need-side-requires-2
 side-requires-2 c κs = (c .before .before .before .before .before .before .before .before .before .pre .0, c .before .before .before .before .before .before .before .before .before .pre .1, c .before .before .before .before .before .before .before .before .before .pre .3, c .before .before .before .before .before .before .before .before .before .pre .5, c .before .before .before .before .before .before .before .before .before .pre .6, c .before .before .before .before .before .before .before .before .before .pre .7, c .before .before .before .before .before .before .before .before .before .pre .9)
 
--- src/block.rt:140:12
 any-less-requires : tie.Need-any-less-requires
 any-less-requires c κs = search needs
 
--- src/block.rt:141:13
 returns-2 : tie.Need-returns-2
 returns-2 c =
     let start = c .before .before .before .before .before .before .before .before .before .before .before .before .before .before in
@@ -67,7 +58,6 @@ returns-2 c =
     block-clear ar (a .words .now) (a .heads .now) (a .tokens .now) (a .at) k rule s (a .v) (a .x0) (a .x1) (a .x2) hk (start .pre .4) (start .pre .5) (start .pre .6) (start .pre .7) _ _ (subst (λ (own : ℕ). (t : Term ℕ) (after : List Token) → Spells ar (a .tokens .now) (a .at) t after → (j : ℕ) → j < 64 → lane j (c .before .before .before .before .before .before .before .before .before .side .last .1 .1 .1 .1 .1 .1 .1 .1 .1 .1 .1 .0) ≡ spanned (wovenMoves ar (a .words .now) (getD (a .heads .now) 64 0)) (setsOf (codesOf own 0 (a .x0) (a .x1) (a .x2)) j) t) (c .before .before .before .before .before .before .before .before .before .before .before .last .ensures) (c .before .before .before .before .before .before .before .before .before .side .ensures)) (subst (λ (own : ℕ). (t : Term ℕ) (after : List Token) → Spells ar (a .tokens .now) (a .at + 24) t after → (j : ℕ) → j < 64 → lane j (c .before .before .before .before .side2 .last .1 .1 .1 .1 .1 .1 .1 .1 .1 .1 .1 .0) ≡ spanned (wovenMoves ar (a .words .now) (getD (a .heads .now) 64 0)) (setsOf (codesOf own 0 (a .x0) (a .x1) (a .x2)) j) t) (c .before .before .before .before .before .before .before .before .before .before .before .last .ensures) (c .before .before .before .before .side2 .ensures))
     (λ j q hq. c .before .any-less .ensures j (ap (λ (z : ℕ). mem z j) (c .if3 .taken) ∙ ap (λ (t : Set). t j) mem-zero) q hq)
 
--- src/block.rt:143:9
 returns-3 : tie.Need-returns-3
 returns-3 c =
     let start = c .before .before .before .before .before .before .before .before .before .before .before .before .before .before in
@@ -76,7 +66,6 @@ returns-3 c =
     λ k rule hk hx s suspected.
     block-some ar (a .words .now) (a .heads .now) (a .tokens .now) (a .at) k rule s (a .v) (a .x0) (a .x1) (a .x2) hk (start .pre .4) (start .pre .5) (start .pre .6) (start .pre .7) _ _ (subst (λ (own : ℕ). (t : Term ℕ) (after : List Token) → Spells ar (a .tokens .now) (a .at) t after → (j : ℕ) → j < 64 → lane j (c .before .before .before .before .before .before .before .before .before .side .last .1 .1 .1 .1 .1 .1 .1 .1 .1 .1 .1 .0) ≡ spanned (wovenMoves ar (a .words .now) (getD (a .heads .now) 64 0)) (setsOf (codesOf own 0 (a .x0) (a .x1) (a .x2)) j) t) (c .before .before .before .before .before .before .before .before .before .before .before .last .ensures) (c .before .before .before .before .before .before .before .before .before .side .ensures)) (subst (λ (own : ℕ). (t : Term ℕ) (after : List Token) → Spells ar (a .tokens .now) (a .at + 24) t after → (j : ℕ) → j < 64 → lane j (c .before .before .before .before .side2 .last .1 .1 .1 .1 .1 .1 .1 .1 .1 .1 .1 .0) ≡ spanned (wovenMoves ar (a .words .now) (getD (a .heads .now) 64 0)) (setsOf (codesOf own 0 (a .x0) (a .x1) (a .x2)) j) t) (c .before .before .before .before .before .before .before .before .before .before .before .last .ensures) (c .before .before .before .before .side2 .ensures))
 
--- src/block.rt:115:1
 returns-4 : tie.Need-returns-4
 returns-4 c =
     let start = c .before .before in

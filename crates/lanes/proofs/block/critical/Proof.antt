@@ -5,31 +5,24 @@ use borrow.Author.Needs.{needs}
 use Rattle.lanes.proofs.block.critical.Statement.{statement}
 use Rattle.lanes.proofs.block.critical.Tie as tie
 
--- src/block.rt:86:15
 mul-minus : tie.Need-mul-minus
 mul-minus c = search needs
 
--- src/block.rt:86:15
 element-copy-out-minus : tie.Need-element-copy-out-minus
 element-copy-out-minus c = search needs
 
--- src/block.rt:86:21
 mul-minus-2 : tie.Need-mul-minus-2
 mul-minus-2 c = search needs
 
--- src/block.rt:86:21
 element-copy-out-minus-2 : tie.Need-element-copy-out-minus-2
 element-copy-out-minus-2 c = search needs
 
--- src/block.rt:86:9
 minus-requires : tie.Need-minus-requires
 minus-requires c κs = search needs
 
--- src/block.rt:86:5
 has-requires : tie.Need-has-requires
 has-requires c κs = search needs
 
--- src/block.rt:81:1
 returns : tie.Need-returns
 returns c = c .has .ensures ∙ ap (λ (s : Set). s (c .before .before .before .before .args .j)) (c .before .minus .ensures)
 

@@ -12,27 +12,21 @@ use borrow.Author.Needs.{needs}
 use Rattle.lanes.proofs.block.side.Statement.{statement}
 use Rattle.lanes.proofs.block.side.Tie as tie
 
--- src/block.rt:47:9
 code-requires : tie.Need-code-requires
 code-requires c κs = c .pre .3
 
--- src/block.rt:48:9
 code-requires-2 : tie.Need-code-requires-2
 code-requires-2 c κs = c .before .pre .4
 
--- src/block.rt:49:9
 code-requires-3 : tie.Need-code-requires-3
 code-requires-3 c κs = c .before .before .pre .5
 
--- src/block.rt:50:9
 code-requires-4 : tie.Need-code-requires-4
 code-requires-4 c κs = search needs
 
--- src/block.rt:52:5
 value-requires : tie.Need-value-requires
 value-requires c κs = (c .before .before .before .before .before .before .before .before .pre .0, c .before .before .before .before .before .before .before .before .pre .1, c .before .before .before .before .before .before .before .before .pre .2, refl, c .before .before .before .before .before .before .before .before .pre .6, search needs, no-settled _ _ _ _ _ _ _ (zero-at 24))
 
--- src/block.rt:30:1
 returns : tie.Need-returns
 unfolding codesOf
 returns c =

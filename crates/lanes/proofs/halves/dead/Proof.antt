@@ -3,32 +3,25 @@ use mathlib.Core.Path.{sym, ap, ap₂, _∙_}
 use mathlib.Core.Bool.{not, _||_}
 use Rattle.sets.specs.Sets.{mem}
 use Prim.Native.Nat.{_+_}
-use native.Mathlib.Omega.{arith}
 use borrow.Author.Needs.{needs}
 use Rattle.lanes.proofs.halves.dead.Statement.{statement}
 use Rattle.lanes.proofs.halves.dead.Tie as tie
 
--- src/halves.rt:69:8
 has-requires : tie.Need-has-requires
 has-requires c κs = search needs
 
--- src/halves.rt:70:9
 returns : tie.Need-returns
 returns c = let a = c .before .before .args in ap (λ b. not (b || mem (a .live) (a .x2 + 1))) (sym (c .if1 .taken) ∙ c .before .has .ensures)
 
--- src/halves.rt:72:18
 add-has : tie.Need-add-has
 add-has c = search needs
 
--- src/halves.rt:72:8
 has-requires-2 : tie.Need-has-requires-2
 has-requires-2 c κs = search needs
 
--- src/halves.rt:65:1
 returns-2 : tie.Need-returns-2
 returns-2 c = ap₂ (λ a b. not (a || b)) (sym (c .before .before .if1 .left) ∙ c .before .before .before .has .ensures) (sym (c .if2 .taken) ∙ c .before .has2 .ensures)
 
--- src/halves.rt:65:1
 returns-3 : tie.Need-returns-3
 returns-3 c = ap₂ (λ a b. not (a || b)) (sym (c .before .before .if1 .left) ∙ c .before .before .before .has .ensures) (sym (c .if2 .left) ∙ c .before .has2 .ensures)
 

@@ -1,6 +1,6 @@
 -- `lanes::halves::judged` meets its contract. Assumes nothing.
 use mathlib.Core.Path.{_≡_, refl, sym, ap, _∙_}
-use mathlib.Core.Bool.{Bool, true, false, not, true≢false}
+use mathlib.Core.Bool.{false}
 use Prim.Native.Nat.{ℕ, _+_}
 use lib.Bits.{bitAnd}
 use Rattle.sets.specs.Sets.{Set, mem}
@@ -14,11 +14,9 @@ use borrow.Author.Needs.{needs}
 use Rattle.lanes.proofs.halves.judged.Statement.{statement}
 use Rattle.lanes.proofs.halves.judged.Tie as tie
 
--- src/halves.rt:92:8
 dead-requires : tie.Need-dead-requires
 dead-requires c κs = search needs
 
--- src/halves.rt:93:9
 returns : tie.Need-returns
 returns c =
     let start = c .before .before in
@@ -26,27 +24,21 @@ returns c =
     let gone = neither (mem (a .live) (a .x2)) (mem (a .live) (a .x2 + 1)) (not-true _ (sym (c .before .dead .ensures) ∙ c .if1 .taken)) in
     λ k rule hk s alive. judged-dead (take (a .symbols) (a .arities .now)) (a .words .now) (a .heads .now) (a .tokens .now) (a .at) k rule s (a .x0) (a .x1) (a .x2) (a .live) (a .mask) (omega arith) (start .pre .8) alive (gone .0) (gone .1)
 
--- src/halves.rt:95:9
 twofold-requires : tie.Need-twofold-requires
 twofold-requires c κs = search needs
 
--- src/halves.rt:96:9
 with-any-requires : tie.Need-with-any-requires
 with-any-requires c κs = search needs
 
--- src/halves.rt:97:21
 add-with-any : tie.Need-add-with-any
 add-with-any c = search needs
 
--- src/halves.rt:97:29
 minus-requires : tie.Need-minus-requires
 minus-requires c κs = search needs
 
--- src/halves.rt:97:5
 with-any-requires-2 : tie.Need-with-any-requires-2
 with-any-requires-2 c κs = search needs
 
--- src/halves.rt:76:1
 returns-2 : tie.Need-returns-2
 returns-2 c =
     let start = c .before .before .before .before .before .before in

@@ -11,36 +11,30 @@ use borrow.Author.Needs.{needs}
 use Rattle.lanes.proofs.halves.settled_sweep.Statement.{statement}
 use Rattle.lanes.proofs.halves.settled_sweep.Tie as tie
 
--- src/halves.rt:211:18
 cast-t16 : tie.Need-cast-t16
 cast-t16 c = search needs
 
--- src/halves.rt:211:28
 cast-t17 : tie.Need-cast-t17
 cast-t17 c = search needs
 
--- src/halves.rt:214:5
 settle-requires : tie.Need-settle-requires
 settle-requires c κs =
     let start = c .before .before .before in
     let a = start .args in
     (start .pre .0, start .pre .1, start .pre .2, refl, first-two (λ (x : ℕ). getD (a .x0 ∷ (a .x1 ∷ (0 ∷ (0 ∷ [])))) x 0 < 64) (start .pre .5) (start .pre .6), omega arith, refl, refl, zero-at 24)
 
--- src/halves.rt:235:9
 add-settle : tie.Need-add-settle
 add-settle c =
     let start = c .before .before .before .before .before in
     let a = start .args in
     omega (arith, within-room (take (a .symbols) (a .arities .now)) (a .tokens .now) (a .at + 24) (start .pre .3))
 
--- src/halves.rt:228:5
 settle-requires-2 : tie.Need-settle-requires-2
 settle-requires-2 c κs =
     let start = c .before .before .before .before .before .before .before in
     let a = start .args in
     (start .pre .0, start .pre .1, start .pre .3, refl, first-two (λ (x : ℕ). getD (a .x0 ∷ (a .x1 ∷ (0 ∷ (0 ∷ [])))) x 0 < 64) (start .pre .5) (start .pre .6), omega arith, refl, refl, zero-at 24)
 
--- src/halves.rt:240:5
 sweep-requires : tie.Need-sweep-requires
 sweep-requires c κs =
     let start = c .before .before .before .before .before .before .before .before .before .before .before .before in
@@ -56,7 +50,6 @@ sweep-requires c κs =
       start .pre .6,
     )
 
--- src/halves.rt:196:1
 returns : tie.Need-returns
 returns c = search needs
 

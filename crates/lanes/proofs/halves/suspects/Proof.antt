@@ -10,29 +10,24 @@ use borrow.Author.Needs.{needs}
 use Rattle.lanes.proofs.halves.suspects.Statement.{statement}
 use Rattle.lanes.proofs.halves.suspects.Tie as tie
 
--- src/halves.rt:274:9
 alive-requires : tie.Need-alive-requires
 alive-requires c κs = search needs
 
--- src/halves.rt:276:9
 returns : tie.Need-returns
 returns c =
     let start = c .before .before in
     let a = start .args in
     λ rule s. alive-suspected (take (a .symbols) (a .arities .now)) (a .words .now) (a .heads .now) (a .tokens .now) (a .at) (a .k) rule s (a .v) (a .x0) (a .x1) (c .before .alive .result) (start .pre .5) (start .pre .4) (c .before .alive .ensures (a .k) rule s)
 
--- src/halves.rt:279:9
 returns-2 : tie.Need-returns-2
 returns-2 c =
     let start = c .before .before .before in
     let a = start .args in
     λ rule s. alive-suspected (take (a .symbols) (a .arities .now)) (a .words .now) (a .heads .now) (a .tokens .now) (a .at) (a .k) rule s (a .v) (a .x0) (a .x1) (c .before .before .alive .result) (start .pre .5) (start .pre .4) (c .before .before .alive .ensures (a .k) rule s)
 
--- src/halves.rt:281:5
 settled-sweep-requires : tie.Need-settled-sweep-requires
 settled-sweep-requires c κs = search needs
 
--- src/halves.rt:259:1
 returns-3 : tie.Need-returns-3
 returns-3 c =
     let start = c .before .before .before .before in

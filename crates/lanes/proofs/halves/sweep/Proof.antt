@@ -21,25 +21,20 @@ abbrev μ-loop : tie.MeasureT-loop
 μ-loop words heads arities symbols tokens at left-ends left-sets right-ends right-sets live k x0 x1 mask₀ x2₀ mask x2 =
     k - x2
 
--- src/halves.rt:172:5
 loop-holds : tie.Need-loop-holds Inv-loop μ-loop
 loop-holds c = λ rule s alive y h. absurd (omega arith)
 
--- src/halves.rt:173:9
 judged-requires : tie.Need-judged-requires Inv-loop μ-loop
 judged-requires c κs =
     let start = c .before .before in
     (start .pre .0, start .pre .1, start .pre .2, start .pre .3, start .pre .4, start .pre .5, start .pre .7, start .pre .8, omega (arith, start .pre .6, c .loop-test .taken))
 
--- src/halves.rt:190:9
 add-x2 : tie.Need-add-x2 Inv-loop μ-loop
 add-x2 c = search needs
 
--- src/halves.rt:172:5
 loop-less : tie.Need-loop-less Inv-loop μ-loop
 loop-less c = search needs
 
--- src/halves.rt:172:5
 loop-again : tie.Need-loop-again Inv-loop μ-loop
 loop-again c =
     let start = c .before .before .before in
@@ -56,7 +51,6 @@ loop-again c =
       ]
     ]
 
--- src/halves.rt:151:1
 returns : tie.Need-returns Inv-loop μ-loop
 unfolding automatonOf
 returns c = λ rule s alive y h e. c .before .loop .inv rule s alive y (omega (arith, c .loop-test .left)) e

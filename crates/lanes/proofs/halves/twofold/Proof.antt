@@ -12,33 +12,26 @@ use borrow.Author.Needs.{needs}
 use Rattle.lanes.proofs.halves.twofold.Statement.{statement}
 use Rattle.lanes.proofs.halves.twofold.Tie as tie
 
--- src/halves.rt:52:18
 cast-t18 : tie.Need-cast-t18
 cast-t18 c = search needs
 
--- src/halves.rt:52:28
 cast-t19 : tie.Need-cast-t19
 cast-t19 c = search needs
 
--- src/halves.rt:52:44
 cast-t20 : tie.Need-cast-t20
 cast-t20 c = search needs
 
--- src/halves.rt:52:38
 add-t21 : tie.Need-add-t21
 add-t21 c = search needs
 
--- src/halves.rt:54:5
 value-requires : tie.Need-value-requires
 value-requires c κs =
     let start = c .before .before in
     (start .pre .0, start .pre .1, start .pre .2, refl, blank-new, omega arith, start .pre .4 _ refl refl)
 
--- src/halves.rt:67:8
 any-requires : tie.Need-any-requires
 any-requires c κs = search needs
 
--- src/halves.rt:68:9
 returns : tie.Need-returns
 returns c =
     let start = c .before .before .before .before .before .before in
@@ -47,24 +40,20 @@ returns c =
     twofold-empty (take (a .symbols) (a .arities .now)) (a .words .now) (a .heads .now) (a .tokens .now) (a .at) k rule s (a .x0) (a .x1) (a .x2) (start .pre .6) (start .pre .7) (start .pre .8) (c .before .before .before .value .last .1 .1 .1 .1 .1 .1 .1 .1 .1 .1 .0) (c .before .before .before .value .ensures .value)
     (λ j q hq. c .before .any .ensures j (ap (λ (z : ℕ). mem z j) (c .if1 .taken) ∙ ap (λ (t : Set). t j) mem-zero) q hq)
 
--- src/halves.rt:70:17
 add-right : tie.Need-add-right
 add-right c =
     let start = c .before .before .before .before .before .before in
     let a = start .args in
     omega (arith, within-room (take (a .symbols) (a .arities .now)) (a .tokens .now) (a .at + 24) (start .pre .3))
 
--- src/halves.rt:72:5
 value-requires-2 : tie.Need-value-requires-2
 value-requires-2 c κs =
     let start = c .before .before .before .before .before .before .before .before in
     (start .pre .0, start .pre .1, start .pre .3, refl, blank-new, omega arith, start .pre .5 _ refl refl)
 
--- src/halves.rt:85:5
 any-less-requires : tie.Need-any-less-requires
 any-less-requires c κs = search needs
 
--- src/halves.rt:34:1
 returns-2 : tie.Need-returns-2
 returns-2 c =
     let start = c .before .before .before .before .before .before .before .before .before .before .before .before in

@@ -7,17 +7,14 @@ use borrow.Author.Needs.{needs}
 use Rattle.lanes.proofs.halves.with_any.Statement.{statement}
 use Rattle.lanes.proofs.halves.with_any.Tie as tie
 
--- src/halves.rt:61:33
 with-requires : tie.Need-with-requires
 with-requires c κs = search needs
 
--- src/halves.rt:57:1
 returns : tie.Need-returns
 returns c =
     let a = c .before .args in
     ap (λ b. cond b (mem (a .set)) (plus (mem (a .set)) (a .q))) (sym (eq-eqb (a .word) 0 (c .if1 .taken)))
 
--- src/halves.rt
 returns-2 : tie.Need-returns-2
 returns-2 c =
     let a = c .before .before .args in

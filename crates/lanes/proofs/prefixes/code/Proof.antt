@@ -8,21 +8,17 @@ use borrow.Author.Needs.{needs}
 use Rattle.lanes.proofs.prefixes.code.Statement.{statement}
 use Rattle.lanes.proofs.prefixes.code.Tie as tie
 
--- src/prefixes.rt:57:16
 cast-result : tie.Need-cast-result
 cast-result c = search needs
 
--- src/prefixes.rt:57:9
 returns : tie.Need-returns
 unfolding codeOf
 returns c = sym (ap (λ (b : Bool). cond b (c .before .args .x) (cond (eqb (c .before .args .i) (c .before .args .own)) 64 (c .before .args .later))) (lt-ltb _ _ (c .if1 .taken)))
 
--- src/prefixes.rt:52:1
 returns-2 : tie.Need-returns-2
 unfolding codeOf
 returns-2 c = rw (le-ltb (c .before .before .args .i) (c .before .before .args .own) (c .before .if1 .left), eq-eqb (c .before .before .args .i) (c .before .before .args .own) (c .if2 .taken))
 
--- src/prefixes.rt:52:1
 returns-3 : tie.Need-returns-3
 unfolding codeOf
 returns-3 c = rw (le-ltb (c .before .before .args .i) (c .before .before .args .own) (c .before .if1 .left), ne-eqb (c .before .before .args .i) (c .before .before .args .own) (c .if2 .left))

@@ -5,21 +5,17 @@ use borrow.Author.Needs.{needs}
 use Rattle.lanes.proofs.prefixes.left.Statement.{statement}
 use Rattle.lanes.proofs.prefixes.left.Tie as tie
 
--- src/prefixes.rt:14:16
 sub-result : tie.Need-sub-result
 sub-result c = search needs
 
--- src/prefixes.rt:14:9
 returns : tie.Need-returns
 unfolding rest
 returns c = omega (arith, c .if1 .taken)
 
--- src/prefixes.rt:10:1
 returns-2 : tie.Need-returns-2
 unfolding rest
 returns-2 c = omega (arith, c .if2 .taken, c .before .if1 .left)
 
--- src/prefixes.rt:10:1
 returns-3 : tie.Need-returns-3
 unfolding rest
 returns-3 c = omega (arith, c .if2 .left, c .before .if1 .left)

@@ -10,19 +10,15 @@ use borrow.Author.Needs.{needs}
 use Rattle.lanes.proofs.prefixes.pair.Statement.{statement}
 use Rattle.lanes.proofs.prefixes.pair.Tie as tie
 
--- src/prefixes.rt:67:18
 cast-number : tie.Need-cast-number
 cast-number c = search needs
 
--- src/prefixes.rt:68:17
 cast-class : tie.Need-cast-class
 cast-class c = search needs
 
--- src/prefixes.rt:69:16
 cast-last : tie.Need-cast-last
 cast-last c = search needs
 
--- src/prefixes.rt:71:9
 returns : tie.Need-returns
 unfolding classesOf classThen chosen
 returns c =
@@ -30,7 +26,6 @@ returns c =
     let a = start .args in
     (refl, sym (ap (λ (n : ℕ). chosen n (a .x0) (a .x1) (a .x2) (a .j)) (c .if1 .taken)), refl)
 
--- src/prefixes.rt:74:9
 returns-2 : tie.Need-returns-2
 unfolding classesOf classThen chosen
 returns-2 c =
@@ -38,11 +33,9 @@ returns-2 c =
     let a = start .args in
     (refl, shown-class (a .j) _ (start .pre .5) ∙ sym (ap (λ (n : ℕ). chosen n (a .x0) (a .x1) (a .x2) (a .j)) (c .if2 .taken)), refl)
 
--- src/prefixes.rt:76:17
 cast-first : tie.Need-cast-first
 cast-first c = search needs
 
--- src/prefixes.rt:78:9
 returns-3 : tie.Need-returns-3
 unfolding classesOf classThen chosen
 returns-3 c =
@@ -50,11 +43,9 @@ returns-3 c =
     let a = start .args in
     (refl, shown-class (a .x0) _ (start .pre .2) ∙ ap (λ (ys : List ℕ). a .x0 ∷ ys) (shown-class (a .j) _ (start .pre .5)) ∙ sym (ap (λ (n : ℕ). chosen n (a .x0) (a .x1) (a .x2) (a .j)) (c .if3 .taken)), refl)
 
--- src/prefixes.rt:80:18
 cast-second : tie.Need-cast-second
 cast-second c = search needs
 
--- src/prefixes.rt:82:9
 returns-4 : tie.Need-returns-4
 unfolding classesOf classThen chosen
 returns-4 c =
@@ -62,11 +53,9 @@ returns-4 c =
     let a = start .args in
     (refl, shown-class (a .x0) _ (start .pre .2) ∙ ap (λ (ys : List ℕ). a .x0 ∷ ys) (shown-class (a .x1) _ (start .pre .3) ∙ ap (λ (ys : List ℕ). a .x1 ∷ ys) (shown-class (a .j) _ (start .pre .5))) ∙ sym (ap (λ (n : ℕ). chosen n (a .x0) (a .x1) (a .x2) (a .j)) (c .if4 .taken)), refl)
 
--- src/prefixes.rt:84:61
 cast-t14 : tie.Need-cast-t14
 cast-t14 c = search needs
 
--- src/prefixes.rt:63:1
 returns-5 : tie.Need-returns-5
 unfolding classesOf classThen chosen
 returns-5 c =

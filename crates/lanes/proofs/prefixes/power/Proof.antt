@@ -7,31 +7,24 @@ use native.Mathlib.Omega.{arith}
 use Rattle.lanes.proofs.prefixes.power.Statement.{statement}
 use Rattle.lanes.proofs.prefixes.power.Tie as tie
 
--- src/prefixes.rt:32:9
 returns : tie.Need-returns
 returns c = sym (ap (λ (n : ℕ). c .before .args .k ^ n) (c .if1 .taken) ∙ pow-zero (c .before .args .k))
 
--- src/prefixes.rt:35:9
 returns-2 : tie.Need-returns-2
 returns-2 c = sym (ap (λ (n : ℕ). c .before .before .args .k ^ n) (c .if2 .taken) ∙ pow-1 (c .before .before .args .k))
 
--- src/prefixes.rt:38:16
 mul-result : tie.Need-mul-result
 mul-result c = omega (arith, square-low (c .before .before .before .args .k) (c .before .before .before .pre .0))
 
--- src/prefixes.rt:38:9
 returns-3 : tie.Need-returns-3
 returns-3 c = sym (ap (λ (n : ℕ). c .before .before .before .args .k ^ n) (c .if3 .taken) ∙ pow-2 (c .before .before .before .args .k))
 
--- src/prefixes.rt:40:5
 mul-result-2 : tie.Need-mul-result-2
 mul-result-2 c = omega (arith, square-low (c .before .before .before .args .k) (c .before .before .before .pre .0))
 
--- src/prefixes.rt:40:5
 mul-result-3 : tie.Need-mul-result-3
 mul-result-3 c = omega (arith, cube-low (c .before .before .before .args .k) (c .before .before .before .pre .0))
 
--- src/prefixes.rt:27:1
 returns-4 : tie.Need-returns-4
 returns-4 c =
     let three : c .before .before .before .args .n ≡ 3 = omega (arith, c .if3 .left, c .before .if2 .left, c .before .before .if1 .left, c .before .before .before .pre .1) in

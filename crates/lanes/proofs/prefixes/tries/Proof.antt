@@ -5,15 +5,12 @@ use borrow.Author.Needs.{needs}
 use Rattle.lanes.proofs.prefixes.tries.Statement.{statement}
 use Rattle.lanes.proofs.prefixes.tries.Tie as tie
 
--- src/prefixes.rt:48:8
 add-if1 : tie.Need-add-if1
 add-if1 c = search needs
 
--- src/prefixes.rt:44:1
 returns : tie.Need-returns
 returns c = sym (choices-in (c .before .args .k) (c .before .args .v) (c .before .args .i) (c .if1 .taken))
 
--- src/prefixes.rt:44:1
 returns-2 : tie.Need-returns-2
 returns-2 c = sym (choices-out (c .before .args .k) (c .before .args .v) (c .before .args .i) (c .if1 .left))
 
