@@ -5,6 +5,7 @@ use sets::has;
 use sets::minus;
 use values::value;
 ghost use mathlib.Core.Path.{_≡_};
+ghost use mathlib.Core.Logic.{_↔_};
 ghost use mathlib.Core.Bool.{true, false};
 ghost use mathlib.Core.List.{List};
 ghost use Prim.Native.Nat.{ℕ, _+_, _≤_, _<_};
@@ -68,7 +69,7 @@ fn side<'a>(
 
 // The lanes in which some class is.
 pub fn any(m: &[u64; 64]) -> u64
-    ensures { λ r. ⌜ ((j : ℕ) → mem r j ≡ false → (q : ℕ) → q < 64 → lane j (now (m .entry)) q ≡ false) ⌝ }
+    ensures { λ r. ⌜ ((j : ℕ) → (mem r j ≡ false) ↔ ((q : ℕ) → q < 64 → lane j (now (m .entry)) q ≡ false)) ⌝ }
 {
     let mut all: u64 = 0;
     let mut q: usize = 0;
@@ -81,7 +82,7 @@ pub fn any(m: &[u64; 64]) -> u64
 
 // The lanes in which some class is in l and not in r.
 pub fn any_less<'a>(l: &'a [u64; 64], r: &'a [u64; 64]) -> u64
-    ensures { λ z. ⌜ ((j : ℕ) → mem z j ≡ false → (q : ℕ) → q < 64 → less (lane j (now (l .entry))) (lane j (now (r .entry))) q ≡ false) ⌝ }
+    ensures { λ z. ⌜ ((j : ℕ) → (mem z j ≡ false) ↔ ((q : ℕ) → q < 64 → less (lane j (now (l .entry))) (lane j (now (r .entry))) q ≡ false)) ⌝ }
 {
     let mut all: u64 = 0;
     let mut q: usize = 0;

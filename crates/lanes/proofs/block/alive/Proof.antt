@@ -26,7 +26,7 @@ returns-2 c =
     let a = start .args in
     λ k rule s.
     some-alive (take (a .symbols) (a .arities .now)) (a .words .now) (a .heads .now) (a .tokens .now) (a .at) k rule s (a .v) (a .i) (a .x0) (a .x1) (c .before .before .side .last .1 .1 .1 .1 .1 .1 .1 .1 .1 .1 .1 .0) (c .any .result)
-    (start .pre .3) (c .before .before .before .before .if1 .left) (start .pre .4) (start .pre .5) (c .before .before .side .ensures) (c .any .ensures)
+    (start .pre .3) (c .before .before .before .before .if1 .left) (start .pre .4) (start .pre .5) (c .before .before .side .ensures) (λ j. c .any .ensures j .0)
 
 pub alive-spec : {M : Type 1} → statement M
 alive-spec = tie.close (tie.spec add-if1 returns side-requires any-requires returns-2)

@@ -1,8 +1,8 @@
 -- `lanes::block::any` meets its contract. Assumes nothing.
-use mathlib.Core.Path.{refl}
+use mathlib.Core.Path.{_≡_, refl}
 use Prim.Native.Nat.{_-_, _≤_}
 use Rattle.values.specs.Lanes.{lane}
-use Rattle.lanes.proofs.Masks.{Missed, missed-more}
+use Rattle.lanes.proofs.Masks.{Missed, missed-none, missed-more}
 use borrow.Author.Needs.{needs}
 use native.Mathlib.Omega.{arith}
 use Rattle.lanes.proofs.block.any.Statement.{statement}
@@ -15,7 +15,7 @@ abbrev μ-loop : tie.MeasureT-loop
 μ-loop m all₀ q₀ all q = 64 - q
 
 loop-holds : tie.Need-loop-holds Inv-loop μ-loop
-loop-holds c = (search needs, λ j e p h. absurd (omega arith))
+loop-holds c = (search needs, missed-none _)
 
 mul-all : tie.Need-mul-all Inv-loop μ-loop
 mul-all c = search needs
@@ -34,7 +34,9 @@ loop-again c =
     (omega (arith, c .before .loop-test .taken), missed-more (λ p j. lane j (c .before .before .before .args .m .now) p) (c .before .before .loop .q) (c .before .before .loop .all) _ (λ j. refl) (c .before .before .loop .inv .1))
 
 returns : tie.Need-returns Inv-loop μ-loop
-returns c = λ j e q h. c .before .loop .inv .1 j e q (omega (arith, c .loop-test .left))
+returns c =
+    let all : 64 ≡ c .before .loop .q = omega (arith, c .before .loop .inv .0, c .loop-test .left) in
+    rw all (c .before .loop .inv .1)
 
 pub any-spec : {M : Type 1} → statement M
 any-spec =

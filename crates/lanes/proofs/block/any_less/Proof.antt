@@ -1,9 +1,9 @@
 -- `lanes::block::any_less` meets its contract. Assumes nothing.
-use mathlib.Core.Path.{ap}
+use mathlib.Core.Path.{_≡_, ap}
 use Prim.Native.Nat.{_-_, _≤_}
 use Rattle.sets.specs.Sets.{Set, less}
 use Rattle.values.specs.Lanes.{lane}
-use Rattle.lanes.proofs.Masks.{Missed, missed-more}
+use Rattle.lanes.proofs.Masks.{Missed, missed-none, missed-more}
 use borrow.Author.Needs.{needs}
 use native.Mathlib.Omega.{arith}
 use Rattle.lanes.proofs.block.any_less.Statement.{statement}
@@ -16,7 +16,7 @@ abbrev μ-loop : tie.MeasureT-loop
 μ-loop l r all₀ q₀ all q = 64 - q
 
 loop-holds : tie.Need-loop-holds Inv-loop μ-loop
-loop-holds c = (search needs, λ j e p h. absurd (omega arith))
+loop-holds c = (search needs, missed-none _)
 
 mul-minus : tie.Need-mul-minus Inv-loop μ-loop
 mul-minus c = search needs
@@ -45,7 +45,9 @@ loop-again c =
     (omega (arith, c .before .before .before .loop-test .taken), missed-more (λ p j. less (lane j (a .l .now)) (lane j (a .r .now)) p) (c .before .before .before .before .loop .q) (c .before .before .before .before .loop .all) (c .minus .result) (λ j. ap (λ (s : Set). s j) (c .minus .ensures)) (c .before .before .before .before .loop .inv .1))
 
 returns : tie.Need-returns Inv-loop μ-loop
-returns c = λ j e q h. c .before .loop .inv .1 j e q (omega (arith, c .loop-test .left))
+returns c =
+    let all : 64 ≡ c .before .loop .q = omega (arith, c .before .loop .inv .0, c .loop-test .left) in
+    rw all (c .before .loop .inv .1)
 
 pub any-less-spec : {M : Type 1} → statement M
 any-less-spec =

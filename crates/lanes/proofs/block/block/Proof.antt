@@ -38,7 +38,7 @@ returns c =
     let ar = take (a .symbols) (a .arities .now) in
     λ k rule hk hx s suspected.
     block-empty ar (a .words .now) (a .heads .now) (a .tokens .now) (a .at) k rule s (a .v) (a .x0) (a .x1) (a .x2) hk (start .pre .4) (start .pre .5) (start .pre .6) (start .pre .7) _ _ (subst (λ (own : ℕ). (t : Term ℕ) (after : List Token) → Spells ar (a .tokens .now) (a .at) t after → (j : ℕ) → j < 64 → lane j (c .before .before .before .side .last .1 .1 .1 .1 .1 .1 .1 .1 .1 .1 .1 .0) ≡ spanned (wovenMoves ar (a .words .now) (getD (a .heads .now) 64 0)) (setsOf (codesOf own 0 (a .x0) (a .x1) (a .x2)) j) t) (c .before .before .before .before .before .last .ensures) (c .before .before .before .side .ensures))
-    (λ j q hq. c .before .any .ensures j (ap (λ (z : ℕ). mem z j) (c .if2 .taken) ∙ ap (λ (t : Set). t j) mem-zero) q hq)
+    (λ j q hq. c .before .any .ensures j .0 (ap (λ (z : ℕ). mem z j) (c .if2 .taken) ∙ ap (λ (t : Set). t j) mem-zero) q hq)
 
 add-side : tie.Need-add-side
 add-side c = omega (arith, within-room (take (c .before .before .before .before .before .before .before .before .args .symbols) (c .before .before .before .before .before .before .before .before .args .arities .now)) (c .before .before .before .before .before .before .before .before .args .tokens .now) (c .before .before .before .before .before .before .before .before .args .at + 24) (c .before .before .before .before .before .before .before .before .pre .3))
@@ -56,7 +56,7 @@ returns-2 c =
     let ar = take (a .symbols) (a .arities .now) in
     λ k rule hk hx s suspected.
     block-clear ar (a .words .now) (a .heads .now) (a .tokens .now) (a .at) k rule s (a .v) (a .x0) (a .x1) (a .x2) hk (start .pre .4) (start .pre .5) (start .pre .6) (start .pre .7) _ _ (subst (λ (own : ℕ). (t : Term ℕ) (after : List Token) → Spells ar (a .tokens .now) (a .at) t after → (j : ℕ) → j < 64 → lane j (c .before .before .before .before .before .before .before .before .before .side .last .1 .1 .1 .1 .1 .1 .1 .1 .1 .1 .1 .0) ≡ spanned (wovenMoves ar (a .words .now) (getD (a .heads .now) 64 0)) (setsOf (codesOf own 0 (a .x0) (a .x1) (a .x2)) j) t) (c .before .before .before .before .before .before .before .before .before .before .before .last .ensures) (c .before .before .before .before .before .before .before .before .before .side .ensures)) (subst (λ (own : ℕ). (t : Term ℕ) (after : List Token) → Spells ar (a .tokens .now) (a .at + 24) t after → (j : ℕ) → j < 64 → lane j (c .before .before .before .before .side2 .last .1 .1 .1 .1 .1 .1 .1 .1 .1 .1 .1 .0) ≡ spanned (wovenMoves ar (a .words .now) (getD (a .heads .now) 64 0)) (setsOf (codesOf own 0 (a .x0) (a .x1) (a .x2)) j) t) (c .before .before .before .before .before .before .before .before .before .before .before .last .ensures) (c .before .before .before .before .side2 .ensures))
-    (λ j q hq. c .before .any-less .ensures j (ap (λ (z : ℕ). mem z j) (c .if3 .taken) ∙ ap (λ (t : Set). t j) mem-zero) q hq)
+    (λ j q hq. c .before .any-less .ensures j .0 (ap (λ (z : ℕ). mem z j) (c .if3 .taken) ∙ ap (λ (t : Set). t j) mem-zero) q hq)
 
 returns-3 : tie.Need-returns-3
 returns-3 c =

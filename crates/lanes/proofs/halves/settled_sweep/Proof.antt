@@ -1,11 +1,11 @@
 -- `lanes::halves::settled_sweep` meets its contract. Assumes nothing.
 use mathlib.Core.Path.{_≡_, refl}
 use mathlib.Core.List.{[], _∷_}
-use Prim.Native.Nat.{ℕ, _+_, _<_}
+use Prim.Native.Nat.{ℕ, _+_}
 use lib.ListN.{getD, take}
 use Rattle.theory.proofs.Bools.{zero-at}
 use Rattle.values.proofs.Standing.{within-room}
-use Rattle.lanes.proofs.Masks.{first-two}
+use Rattle.lanes.proofs.Masks.{codes-low, first-two}
 use native.Mathlib.Omega.{arith}
 use borrow.Author.Needs.{needs}
 use Rattle.lanes.proofs.halves.settled_sweep.Statement.{statement}
@@ -21,7 +21,7 @@ settle-requires : tie.Need-settle-requires
 settle-requires c κs =
     let start = c .before .before .before in
     let a = start .args in
-    (start .pre .0, start .pre .1, start .pre .2, refl, first-two (λ (x : ℕ). getD (a .x0 ∷ (a .x1 ∷ (0 ∷ (0 ∷ [])))) x 0 < 64) (start .pre .5) (start .pre .6), omega arith, refl, refl, zero-at 24)
+    (start .pre .0, start .pre .1, start .pre .2, refl, λ x h. codes-low (a .x0) (a .x1) (start .pre .5) (start .pre .6) x, omega arith, refl, refl, zero-at 24)
 
 add-settle : tie.Need-add-settle
 add-settle c =
@@ -33,7 +33,7 @@ settle-requires-2 : tie.Need-settle-requires-2
 settle-requires-2 c κs =
     let start = c .before .before .before .before .before .before .before in
     let a = start .args in
-    (start .pre .0, start .pre .1, start .pre .3, refl, first-two (λ (x : ℕ). getD (a .x0 ∷ (a .x1 ∷ (0 ∷ (0 ∷ [])))) x 0 < 64) (start .pre .5) (start .pre .6), omega arith, refl, refl, zero-at 24)
+    (start .pre .0, start .pre .1, start .pre .3, refl, λ x h. codes-low (a .x0) (a .x1) (start .pre .5) (start .pre .6) x, omega arith, refl, refl, zero-at 24)
 
 sweep-requires : tie.Need-sweep-requires
 sweep-requires c κs =

@@ -38,7 +38,7 @@ returns c =
     let a = start .args in
     λ k rule s.
     twofold-empty (take (a .symbols) (a .arities .now)) (a .words .now) (a .heads .now) (a .tokens .now) (a .at) k rule s (a .x0) (a .x1) (a .x2) (start .pre .6) (start .pre .7) (start .pre .8) (c .before .before .before .value .last .1 .1 .1 .1 .1 .1 .1 .1 .1 .1 .0) (c .before .before .before .value .ensures .value)
-    (λ j q hq. c .before .any .ensures j (ap (λ (z : ℕ). mem z j) (c .if1 .taken) ∙ ap (λ (t : Set). t j) mem-zero) q hq)
+    (λ j q hq. c .before .any .ensures j .0 (ap (λ (z : ℕ). mem z j) (c .if1 .taken) ∙ ap (λ (t : Set). t j) mem-zero) q hq)
 
 add-right : tie.Need-add-right
 add-right c =
@@ -60,7 +60,7 @@ returns-2 c =
     let a = start .args in
     λ k rule s.
     twofold-some (take (a .symbols) (a .arities .now)) (a .words .now) (a .heads .now) (a .tokens .now) (a .at) k rule s (a .x0) (a .x1) (a .x2) (start .pre .6) (start .pre .7) (start .pre .8) (c .before .before .before .before .before .before .before .before .before .value .last .1 .1 .1 .1 .1 .1 .1 .1 .1 .1 .0) (c .before .before .before .before .before .before .before .before .before .value .ensures .value) (c .before .before .before .value2 .last .1 .1 .1 .1 .1 .1 .1 .1 .1 .1 .0) (c .any-less .result) (c .before .before .before .value2 .ensures .value)
-    (c .any-less .ensures)
+    (λ j. c .any-less .ensures j .0)
 
 pub twofold-spec : {M : Type 1} → statement M
 twofold-spec =
