@@ -6,6 +6,9 @@ use sets::has;
 use sets::minus;
 use sets::with;
 use settled::settle;
+use values::HALF;
+use values::LOWER;
+use values::TWO;
 use values::value;
 ghost use mathlib.Core.Path.{_≡_};
 ghost use mathlib.Core.Bool.{cond, not, _||_};
@@ -19,20 +22,11 @@ ghost use Rattle.values.specs.Standing.{Stands};
 ghost use Rattle.lanes.specs.Blocks.{Spelled, Alive, Suspected, Remembered, Twofold, Judged};
 ghost use Rattle.lanes.specs.Automaton.{automatonOf};
 
-// The lower half of the lanes.
-const LOWER: u64 = 4294967295;
-
 // How many classes a half has room for.
 const ROOM: u64 = 32;
 
 // How many variables have one class in every lane.
 const SETTLED: u8 = 2;
-
-// The code of the last variable, whose class is its lane's place in its half.
-const HALF: u8 = 66;
-
-// The code of a variable with the class 0 in the lower half and 1 in the upper half.
-const TWO: u8 = 128;
 
 // The lanes that may have a critical pair where x2 has its class in the lower half and the next one in the upper half. The right side is valued only where the left has a class.
 fn twofold<'a>(

@@ -6,13 +6,13 @@ use Prim.Native.Nat.{ℕ, suc, _+_, _-_, _≤_, _<_}
 use native.Mathlib.Nat.{add-zero}
 use native.Mathlib.Decide.{decLt}
 use native.Mathlib.Omega.{arith}
-use lib.ListN.{length, getD, drop, length-append}
+use lib.ListN.{length, getD, drop}
 use borrow.Author.Tests.{lt-ltb, le-ltb}
 use Rattle.theory.specs.Term.{Term, Terms, var, node, none, _then_}
 use Rattle.theory.specs.Preorder.{Token, preorder, preorderAll, RankedRow, nothing, another}
 use Rattle.tables.specs.Held.{tokenOf}
 use Rattle.values.specs.Standing.{Spells, SpellsRow, Stands}
-use Rattle.values.proofs.Standing.{First, taken-first, variable-here, symbol-here, no-terms, StandsRow, first-stands}
+use Rattle.values.proofs.Standing.{First, taken-first, variable-here, symbol-here, no-terms, StandsRow, first-stands, others-behind}
 use Rattle.values.proofs.Settled.{behind}
 use Rattle.settled.specs.Below.{Below, BelowAll, low, over, empty, _beside_, Measured, opened}
 
@@ -125,16 +125,8 @@ module _ (arities tokens : List ℕ) where
       record { row = w .row; behind = s .behind; spells = w .spells; room = omega (arith, s .room, w .size) }
 
   pub row-past : (at n k : ℕ) → 0 < n → ((t : Term ℕ) (rest : List Token) → Spells arities tokens at t rest → k ≡ length (preorder t)) → StandsRow arities tokens at n → StandsRow arities tokens (at + k) (n - 1)
-  unfolding preorder
-  row-past at n k some size s =
-      let w = taken-first arities tokens at (n - 1) (s .behind) (s .spells .ranked) (omega arith) (s .spells .reads) in
-      let long = size (w .term) _ (w .spells) in
-      record {
-        row = w .others;
-        behind = s .behind;
-        spells = record { ranked = w .ranked; reads = ap (λ i. map tokenOf (drop (at + i) tokens)) long ∙ behind (w .spells) };
-        room = omega (arith, s .room, long, ap (λ us. length (preorderAll us)) (w .same), length-append (preorder (w .term)) (preorderAll (w .others)));
-      }
+  row-past at n k some size =
+      others-behind arities tokens at n (at + k) some (λ t rest w. (ap (λ i. map tokenOf (drop (at + i) tokens)) (size t rest w) ∙ behind w, ap (λ i. at + i) (size t rest w)))
 
   module _ (at free : ℕ) where
     pub reading-begun : (t : Term ℕ) (rest : List Token) → Spells arities tokens at t rest → Reading at free t rest 0 1

@@ -125,18 +125,23 @@ module _ (arities tokens : List ℕ) where
   unfolding preorder
   first-stands at n h s = let w = first-in at n h s in record { term = w .term; rest = preorderAll (w .others) ++ s .behind; spells = w .spells; room = omega (arith, s .room, ap (λ us. length (preorderAll us)) (w .same), length-append (preorder (w .term)) (preorderAll (w .others))) }
 
+  -- The others stand behind it.
+  pub others-behind : (at n next : ℕ) → 0 < n → ((t : Term ℕ) (rest : List Token) → Spells arities tokens at t rest → (from next ≡ rest) × (next ≡ at + length (preorder t))) → StandsRow at n → StandsRow next (n - 1)
+  unfolding preorder
+  others-behind at n next h after s =
+      let w = first-in at n h s in
+      let (reads, end) = after (w .term) (preorderAll (w .others) ++ s .behind) (w .spells) in
+      record {
+        row = w .others;
+        behind = s .behind;
+        spells = record { ranked = w .ranked; reads = reads };
+        room = omega (arith, s .room, end, ap (λ us. length (preorderAll us)) (w .same), length-append (preorder (w .term)) (preorderAll (w .others)));
+      }
+
   module _ (Δ : List Transition) (codes : List ℕ) where
-    -- The others stand behind it.
+    -- So do they behind a term that is valued.
     pub others-stand : (at n : ℕ) (m : List ℕ) (next : ℕ) → 0 < n → Valued Δ arities codes tokens at m next → StandsRow at n → StandsRow next (n - 1)
-    unfolding preorder
-    others-stand at n m next h v s =
-        let w = first-in at n h s in
-        record {
-          row = w .others;
-          behind = s .behind;
-          spells = record { ranked = w .ranked; reads = v .rest (w .term) (preorderAll (w .others) ++ s .behind) (w .spells) };
-          room = omega (arith, s .room, v .end (w .term) (preorderAll (w .others) ++ s .behind) (w .spells), ap (λ us. length (preorderAll us)) (w .same), length-append (preorder (w .term)) (preorderAll (w .others)));
-        }
+    others-stand at n m next h v = others-behind at n next h (λ t rest w. (v .rest t rest w, v .end t rest w))
 
     -- The row of n terms at a place has the values ss in lane j, and `next` is the place after it.
     pub record RowValued (j at n : ℕ) (ss : List Set) (next : ℕ) : Type 0 where

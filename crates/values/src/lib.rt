@@ -16,7 +16,13 @@ ghost use Rattle.values.specs.Settled.{Settled, endAt};
 const ALL: u64 = 18446744073709551615;
 
 // The lower half of the lanes.
-const LOWER: u64 = 4294967295;
+pub const LOWER: u64 = 4294967295;
+
+// The code of a variable whose class is its lane's place in its half.
+pub const HALF: u8 = 66;
+
+// The code of a variable with the class 0 in the lower half and 1 in the upper half.
+pub const TWO: u8 = 128;
 
 // A byte as a place.
 fn place(x: u8) -> usize
@@ -203,10 +209,10 @@ fn fill(code: u8, out: &mut [u64; 64])
         if code == 64 {
             fill_own(out);
         } else {
-            if code == 66 {
+            if code == HALF {
                 fill_half(out);
             } else {
-                if code < 128 {
+                if code < TWO {
                     fill_any(out);
                 } else {
                     fill_two(code, out);
