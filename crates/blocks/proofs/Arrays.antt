@@ -9,12 +9,6 @@ use lib.Seq.{drop-cons, take-suc, length-take-le, getD-take}
 use Rattle.theory.specs.Lists.{countFrom}
 use Rattle.fields.specs.Padded.{padded}
 
-pub padded-length : (n : ℕ) (xs : List ℕ) → length (padded n xs) ≡ n
-unfolding padded
-padded-length zero xs = refl
-padded-length (suc n) [] = ap suc (padded-length n [])
-padded-length (suc n) (x ∷ xs) = ap suc (padded-length n xs)
-
 snoc : (n : ℕ) (xs : List ℕ) (v : ℕ) → length xs < n → set (padded n xs) (length xs) v ≡ padded n (xs ++ (v ∷ []))
 unfolding padded
 snoc zero xs v h = absurd (omega arith)

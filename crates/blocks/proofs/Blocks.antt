@@ -14,7 +14,8 @@ use Rattle.fields.specs.declared.arrows.Arrow.the-variants.{Read as ReadArrow}
 use Rattle.fields.specs.Padded.{padded}
 use Rattle.fields.specs.Said.{keyed, moved, saidArrow, WholeArrow}
 use Rattle.blocks.specs.Packed.{rowOf, rowsOf, packedRows}
-use Rattle.blocks.proofs.Arrays.{padded-length, padded-five}
+use Rattle.blocks.proofs.Arrays.{padded-five}
+use Rattle.fields.proofs.Whole.{padded-length}
 
 -- ts were read before what r gives
 unfoldable pub joinTo : {X : Type 0} → List X → Reading (List X) → Reading (List X)

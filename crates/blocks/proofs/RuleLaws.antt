@@ -9,7 +9,7 @@ use lib.Dec.{leb}
 use lib.ListN.{length, take, getD, set, length-append, length-map}
 use Rattle.theory.specs.Lists.{countFrom}
 use Rattle.theory.specs.Term.{Term, variables}
-use Rattle.theory.specs.Preorder.{Token, function, argument, preorder}
+use Rattle.theory.specs.Preorder.{Token, symbol, variable, preorder}
 use Rattle.theory.specs.Rewriting.{Rule, variableCount}
 use Rattle.paper.specs.Format.{Reading, refused, gave}
 use Rattle.fields.specs.declared.cursor.Cursor.{Cursor}
@@ -25,7 +25,8 @@ use Rattle.blocks.specs.Packed.{byteOf, sideOf, ruleOf, sidesOf, leftCou
 use Rattle.blocks.specs.Handed.{SideRead, RuleRead, HandedRule, codeByte, ruledStop}
 use Rattle.blocks.specs.declared.places.Reached.{Reached}
 use Rattle.blocks.specs.declared.places.Reached.the-variants.{Refused as Stopped}
-use Rattle.blocks.proofs.Arrays.{padded-length, padded-step, padded-twice}
+use Rattle.blocks.proofs.Arrays.{padded-step, padded-twice}
+use Rattle.fields.proofs.Whole.{padded-length}
 
 -- what a side hands over
 pub side-counted : (ar : List ℕ) (s : Side) (n v : ℕ) (c : Cursor) → CountedSide ar s → s .answer ≡ GotSide n v c → (variables (meant ar (take n (s .tokens))) ≡ countFrom 0 v) × (v ≤ 4)
@@ -59,8 +60,8 @@ rule-refused file r line left right a q at h e = rw e at h
 -- The bytes of tokens.
 code-byte : (t : Token) → codeOf t < 68 → codeByte (codeOf t) ≡ byteOf t
 unfolding codeByte codeOf byteOf code
-code-byte (function f) h = rw (le-ltb (f + 4) 4 (omega arith)) (omega arith)
-code-byte (argument x) h = go (leb x 3) refl
+code-byte (symbol f) h = rw (le-ltb (f + 4) 4 (omega arith)) (omega arith)
+code-byte (variable x) h = go (leb x 3) refl
   where
     go : (b : Bool) → leb x 3 ≡ b → codeByte (code 2 x) ≡ 64 + x
     go true p = let l = leb-true x 3 p in rw (p, code) (rw (lt-ltb x 4 (omega arith)))

@@ -8,11 +8,11 @@ use native.Mathlib.Omega.{arith}
 use lib.ListN.{length, drop, take, getD, length-take}
 use Rattle.theory.specs.Automaton.{Automaton}
 use Rattle.paper.specs.Bytes.{bytes}
-use Rattle.paper.specs.Judged.{Judged}
-use Rattle.paper.proofs.Judged.{Says, said, passed, spoken}
+use Rattle.paper.specs.Checked.{Checked}
+use Rattle.paper.proofs.Checked.{Says, said, passed, spoken}
 use Rattle.sides.proofs.SidesTold.{judged-at}
 use Rattle.paper.specs.Certificate.{Kind, row}
-use Rattle.paper.specs.Tables.{one, transition, numbersOf, list, arityList}
+use Rattle.paper.specs.Tables.{singleNumber, transition, numbersOf, numberList, arityList}
 use Rattle.paper.specs.Format.{Reading, refused, gave, Reader, _>>=_, give, fixed, lineOf, times, rule}
 use Rattle.fields.specs.declared.cursor.Cursor.{Cursor}
 use Rattle.fields.specs.declared.cursor.Field.{Field}
@@ -35,19 +35,19 @@ use Rattle.paper.proofs.Admitted.{some-numbers}
 use Rattle.paper.proofs.Spelling.{steps}
 
 module _ (file : List ℕ) (K : Kind) (kb : List ℕ) (same : kb ≡ keyOf K) (line : ℕ) (bs : List ℕ) where
-  pub number-read : (f : Field) → saidField file f ≡ keyed kb (one K) bs → (v : ℕ) (c : Cursor) → f ≡ Read v c → fixed K one line bs ≡ gave v (line + 1) (drop (c .at) file)
+  pub number-read : (f : Field) → saidField file f ≡ keyed kb (singleNumber K) bs → (v : ℕ) (c : Cursor) → f ≡ Read v c → fixed K singleNumber line bs ≡ gave v (line + 1) (drop (c .at) file)
   unfolding fixed keyOf
-  number-read f h v c e = field-read file (row K .key) kb same line bs (one K) f h v c e
+  number-read f h v c e = field-read file (row K .key) kb same line bs (singleNumber K) f h v c e
 
-  pub number-refused : (f : Field) → saidField file f ≡ keyed kb (one K) bs → (k q : ℕ) → k ≡ fieldRefusal f → f ≡ NoField q → fixed K one line bs ≡ refused k line
+  pub number-refused : (f : Field) → saidField file f ≡ keyed kb (singleNumber K) bs → (k q : ℕ) → k ≡ fieldRefusal f → f ≡ NoField q → fixed K singleNumber line bs ≡ refused k line
   unfolding fixed keyOf
-  number-refused f h k q g e = field-refused file (row K .key) kb same line bs (one K) f h k q g e
+  number-refused f h k q g e = field-refused file (row K .key) kb same line bs (singleNumber K) f h k q g e
 
-  pub numbers-read : (m : ℕ) (judge : Kind → List ℕ → Judged (List ℕ)) (it : Items) → Listing file m (keyed kb (judge K) bs) it → (n : ℕ) (a : Bool) (c : Cursor) → it .answer ≡ Got n a c → fixed K judge line bs ≡ gave (take n (it .items)) (line + 1) (drop (c .at) file)
+  pub numbers-read : (m : ℕ) (judge : Kind → List ℕ → Checked (List ℕ)) (it : Items) → Listing file m (keyed kb (judge K) bs) it → (n : ℕ) (a : Bool) (c : Cursor) → it .answer ≡ Got n a c → fixed K judge line bs ≡ gave (take n (it .items)) (line + 1) (drop (c .at) file)
   unfolding fixed keyOf
   numbers-read m judge it h n a c e = list-read file (row K .key) kb same line bs m (judge K) it h n a c e
 
-  pub numbers-refused : (m : ℕ) (judge : Kind → List ℕ → Judged (List ℕ)) (it : Items) → Listing file m (keyed kb (judge K) bs) it → (k q : ℕ) → k ≡ refusalIn (it .answer) → it .answer ≡ NoList q → fixed K judge line bs ≡ refused k line
+  pub numbers-refused : (m : ℕ) (judge : Kind → List ℕ → Checked (List ℕ)) (it : Items) → Listing file m (keyed kb (judge K) bs) it → (k q : ℕ) → k ≡ refusalIn (it .answer) → it .answer ≡ NoList q → fixed K judge line bs ≡ refused k line
   unfolding fixed keyOf
   numbers-refused m judge it h k q g e = list-refused file (row K .key) kb same line bs m (judge K) it h k q g e
 
@@ -122,7 +122,7 @@ initial-for b items bytes n line bs e = rw e
 
 -- there is at least one arity
 arities-more : (value : List ℕ) → Says (λ ns. 1 ≤ length ns) (arityList value)
-unfolding arityList list row numbersOf
+unfolding arityList numberList row numbersOf
 arities-more value = said _ _ (said _ _ (some-numbers value) (λ ns l. passed 5 _ _ (λ h. spoken _ _ l))) (λ ns l. passed 6 _ _ (λ h. spoken _ _ l))
 
 pub arities-some : (file kb bs : List ℕ) (m : ℕ) (it : Items) → Listing file m (keyed kb arityList bs) it → (n : ℕ) (a : Bool) (c : Cursor) → it .answer ≡ Got n a c → 1 ≤ n

@@ -8,7 +8,7 @@ use Rattle.theory.specs.Automaton.{Automaton}
 use Rattle.theory.specs.Rewriting.{Rule}
 use Rattle.paper.specs.Bytes.{bytes}
 use Rattle.paper.specs.Certificate.{Certificate, Kind, row, Budget, Arities, States, Final, Trans, BadStates, BadFinal, BadTrans, Rules, Merge}
-use Rattle.paper.specs.Tables.{one, arityList, finalList, transition, classList}
+use Rattle.paper.specs.Tables.{singleNumber, arityList, finalList, transition, classList}
 use Rattle.paper.specs.Format.{Reader, _>>=_, _>>_, give, fixed, lineOf, times, rule, end}
 
 -- All of a certificate but its merging.
@@ -39,7 +39,7 @@ fromRows key arities n final count = do
 
 -- From the count of its transitions on.
 unfoldable pub fromTrans : Kind → String → (arities : List ℕ) → (n : ℕ) → (final : List ℕ) → Reader Automaton
-fromTrans trans key arities n final = fixed trans one >>= fromRows key arities n final
+fromTrans trans key arities n final = fixed trans singleNumber >>= fromRows key arities n final
 
 -- From its final states on.
 unfoldable pub fromFinal : (final trans : Kind) → String → (arities : List ℕ) → ℕ → Reader Automaton
@@ -47,7 +47,7 @@ fromFinal final trans key arities n = fixed final (λ kind. finalList kind n) >>
 
 -- An automaton's lines: A's or B's.
 unfoldable pub automaton : (states final trans : Kind) → String → List ℕ → Reader Automaton
-automaton states final trans key arities = fixed states one >>= fromFinal final trans key arities
+automaton states final trans key arities = fixed states singleNumber >>= fromFinal final trans key arities
 
 -- From the n rules on.
 unfoldable pub fromRules : (budget : ℕ) (arities : List ℕ) (A B : Automaton) → ℕ → Reader Draft
@@ -57,7 +57,7 @@ fromRules budget arities A B n = do
 
 -- From the line `rules` on.
 unfoldable pub fromRuleCount : (budget : ℕ) (arities : List ℕ) (A B : Automaton) → Reader Draft
-fromRuleCount budget arities A B = fixed Rules one >>= fromRules budget arities A B
+fromRuleCount budget arities A B = fixed Rules singleNumber >>= fromRules budget arities A B
 
 -- From B on.
 unfoldable pub fromBad : (budget : ℕ) (arities : List ℕ) (A : Automaton) → Reader Draft
@@ -73,7 +73,7 @@ fromArities budget = fixed Arities (λ kind. arityList) >>= fromInitial budget
 
 -- All lines before `merge`.
 unfoldable pub draft : Reader Draft
-draft = fixed Budget one >>= fromArities
+draft = fixed Budget singleNumber >>= fromArities
 
 -- The line `merge`, for n states.
 unfoldable pub mergeLine : ℕ → Reader (List ℕ)

@@ -10,11 +10,11 @@ use Rattle.theory.specs.Preorder.{preorder}
 use Rattle.theory.specs.Rewriting.{Rule, variableCount}
 use Rattle.theory.specs.Automaton.{Transition}
 use Rattle.paper.specs.Bytes.{bytes}
-use mathlib.Core.Bool.{false, cond}
+use mathlib.Core.Bool.{cond}
 use Rattle.paper.specs.Certificate.{row}
 use Rattle.fields.specs.Line.{kindAt}
 use Rattle.fields.specs.Said.{FinalKind}
-use Rattle.paper.specs.Judged.{Judged}
+use Rattle.paper.specs.Checked.{Checked}
 use Rattle.paper.specs.Format.{Reading, refused, gave, times, lineOf}
 use Rattle.fields.specs.declared.cursor.Cursor.{Cursor}
 use Rattle.fields.specs.declared.cursor.Field.{Field}
@@ -43,7 +43,7 @@ Handed file most pack none reading (At c line) packed = Went file most pack read
 Handed file most pack none reading (Refused r line) packed = (reading ≡ refused r line) × (packed ≡ none)
 
 -- The same for n lines with this key.
-abbrev pub HandedBlock : (file : List ℕ) (most : ℕ) → (List Transition → List ℕ) → List ℕ → ℕ → (key : List ℕ) → (List ℕ → Judged Transition) → (first : ℕ) → (rest : List ℕ) → Reached → List ℕ → Type 0
+abbrev pub HandedBlock : (file : List ℕ) (most : ℕ) → (List Transition → List ℕ) → List ℕ → ℕ → (key : List ℕ) → (List ℕ → Checked Transition) → (first : ℕ) → (rest : List ℕ) → Reached → List ℕ → Type 0
 HandedBlock file most pack none n key judge first rest answer rows = (k : String) → key ≡ bytes k ++ bytes "=" → Handed file most pack none (times n (lineOf k judge) first rest) answer rows
 
 -- A side that was read: n codes of its tokens.
@@ -95,8 +95,6 @@ ruledStop (NoRule q line) = Refused q line
 -- The kinds of an automaton's three fixed lines: a number, a list of final states, a count of transitions.
 pub record TableKinds (kind : ℕ) : Type 0 where
   pub kinds : kind + 2 < 10
-  pub states : row (kindAt kind) .empty ≡ false
   pub most-states : (row (kindAt kind) .least ≡ 1) × (row (kindAt kind) .greatest ≡ 32)
   pub final : FinalKind (kindAt (kind + 1))
-  pub trans : row (kindAt (kind + 2)) .empty ≡ false
   pub most-trans : row (kindAt (kind + 2)) .greatest ≡ 128

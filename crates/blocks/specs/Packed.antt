@@ -4,10 +4,9 @@ use Prim.Native.Nat.{ℕ, _+_, _^_}
 use lib.Bits.{bitOr}
 use lib.ListN.{length}
 use Rattle.theory.specs.Term.{Term}
-use Rattle.theory.specs.Preorder.{Token, function, argument, preorder}
+use Rattle.theory.specs.Preorder.{Token, symbol, variable, preorder}
 use Rattle.theory.specs.Rewriting.{Rule, variableCount}
-use Rattle.theory.specs.Automaton.{Automaton, Transition}
-use Rattle.theory.specs.Merging.{classes}
+use Rattle.theory.specs.Automaton.{Automaton, Transition, classes}
 use Rattle.fields.specs.Padded.{padded}
 use Rattle.tables.specs.declared.Table.{Table}
 use Rattle.tables.specs.declared.Rules.{Rules}
@@ -39,8 +38,8 @@ tableOf A = record { states = A .states; finals = maskFrom 0 (A .final); count =
 
 -- The byte of a token.
 unfoldable pub byteOf : Token → ℕ
-byteOf (function f) = f
-byteOf (argument x) = 64 + x
+byteOf (symbol f) = f
+byteOf (variable x) = 64 + x
 
 -- The bytes of a side.
 unfoldable pub sideOf : Term ℕ → List ℕ

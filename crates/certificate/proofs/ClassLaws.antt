@@ -5,7 +5,7 @@ use Prim.Native.Nat.{ℕ, _+_, _≤_, _<_, max}
 use native.Mathlib.Omega.{arith}
 use lib.ListN.{length, drop, take, getD}
 use lib.Seq.{length-take-le}
-use Rattle.theory.specs.Merging.{largest, classes}
+use Rattle.theory.specs.Automaton.{largest, classes}
 use Rattle.fields.proofs.Rest.{rest-end}
 use Rattle.blocks.proofs.Arrays.{taken-cons}
 

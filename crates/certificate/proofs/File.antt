@@ -6,12 +6,11 @@ use Prim.Native.String.{String}
 use native.Mathlib.Omega.{arith}
 use borrow.Author.Tests.{le-leb, lt-leb}
 use lib.ListN.{length, drop, take}
-use Rattle.theory.specs.Automaton.{Automaton}
-use Rattle.theory.specs.Merging.{classes}
-use Rattle.paper.specs.Judged.{Judged, fault, says}
-use Rattle.paper.specs.Lines.{Said, judgedLine}
+use Rattle.theory.specs.Automaton.{Automaton, classes}
+use Rattle.paper.specs.Checked.{Checked, fault, says}
+use Rattle.paper.specs.Lines.{Said, checkedLine}
 use Rattle.paper.specs.Certificate.{Certificate, Kind, row, Budget, Arities, States, Final, Trans, BadStates, BadFinal, BadTrans, Rules}
-use Rattle.paper.specs.Tables.{one, arityList, finalList, transition}
+use Rattle.paper.specs.Tables.{singleNumber, arityList, finalList, transition}
 use Rattle.paper.specs.Format.{Reading, refused, gave, Reader, goOn, _>>=_, _>>_, give, onLine, lineOf, fixed, times, rule, end, certificate, wholeFile, readFile}
 use Rattle.fields.proofs.Rest.{rest-end, rest-cons}
 use Rattle.fields.specs.Padded.{padded}
@@ -43,27 +42,27 @@ assoc m f g = λ i line bs. assoc-at (m line bs) f g i
 -- an automaton's lines, and then others
 flat : {Y : Type 0} (K1 K2 K3 : Kind) (key : String) (ar : List ℕ) (next : Automaton → Reader Y)
     → _≡_ {A = Reader Y} (automaton K1 K2 K3 key ar >>= next)
-    (fixed K1 one >>= (λ n. fixed K2 (λ kind. finalList kind n) >>= (λ final. fixed K3 one >>= (λ count. times count (lineOf key (transition ar n)) >>= (λ ts. next (record { states = n; transitions = ts; final = final }))))))
+    (fixed K1 singleNumber >>= (λ n. fixed K2 (λ kind. finalList kind n) >>= (λ final. fixed K3 singleNumber >>= (λ count. times count (lineOf key (transition ar n)) >>= (λ ts. next (record { states = n; transitions = ts; final = final }))))))
 unfolding automaton fromFinal fromTrans fromRows give goOn _>>=_
 flat K1 K2 K3 key ar next =
-    assoc (fixed K1 one) (fromFinal K2 K3 key ar) next
-    ∙ bind-cong (fixed K1 one) _ _ (λ n. assoc (fixed K2 (λ kind. finalList kind n)) (fromTrans K3 key ar n) next
-    ∙ bind-cong (fixed K2 (λ kind. finalList kind n)) _ _ (λ final. assoc (fixed K3 one) (fromRows key ar n final) next
-    ∙ bind-cong (fixed K3 one) _ _ (λ count. assoc (times count (lineOf key (transition ar n))) _ next)))
+    assoc (fixed K1 singleNumber) (fromFinal K2 K3 key ar) next
+    ∙ bind-cong (fixed K1 singleNumber) _ _ (λ n. assoc (fixed K2 (λ kind. finalList kind n)) (fromTrans K3 key ar n) next
+    ∙ bind-cong (fixed K2 (λ kind. finalList kind n)) _ _ (λ final. assoc (fixed K3 singleNumber) (fromRows key ar n final) next
+    ∙ bind-cong (fixed K3 singleNumber) _ _ (λ count. assoc (times count (lineOf key (transition ar n))) _ next)))
 
-flat-rules : (b : ℕ) (ar : List ℕ) (A B : Automaton) → _≡_ {A = Reader Certificate} (fromRuleCount b ar A B >>= closing) (fixed Rules one >>= (λ n. times n (rule ar) >>= (λ rules. closing (record { budget = b; arities = ar; A = A; B = B; rules = rules }))))
+flat-rules : (b : ℕ) (ar : List ℕ) (A B : Automaton) → _≡_ {A = Reader Certificate} (fromRuleCount b ar A B >>= closing) (fixed Rules singleNumber >>= (λ n. times n (rule ar) >>= (λ rules. closing (record { budget = b; arities = ar; A = A; B = B; rules = rules }))))
 unfolding fromRuleCount fromRules give goOn _>>=_
-flat-rules b ar A B = assoc (fixed Rules one) (fromRules b ar A B) closing ∙ bind-cong (fixed Rules one) _ _ (λ n. assoc (times n (rule ar)) _ closing)
+flat-rules b ar A B = assoc (fixed Rules singleNumber) (fromRules b ar A B) closing ∙ bind-cong (fixed Rules singleNumber) _ _ (λ n. assoc (times n (rule ar)) _ closing)
 
-flat-bad : (b : ℕ) (ar : List ℕ) (A : Automaton) → _≡_ {A = Reader Certificate} (fromBad b ar A >>= closing) (automaton BadStates BadFinal BadTrans "u" ar >>= (λ B. fixed Rules one >>= (λ n. times n (rule ar) >>= (λ rules. closing (record { budget = b; arities = ar; A = A; B = B; rules = rules })))))
+flat-bad : (b : ℕ) (ar : List ℕ) (A : Automaton) → _≡_ {A = Reader Certificate} (fromBad b ar A >>= closing) (automaton BadStates BadFinal BadTrans "u" ar >>= (λ B. fixed Rules singleNumber >>= (λ n. times n (rule ar) >>= (λ rules. closing (record { budget = b; arities = ar; A = A; B = B; rules = rules })))))
 unfolding fromBad
 flat-bad b ar A = assoc (automaton BadStates BadFinal BadTrans "u" ar) (fromRuleCount b ar A) closing ∙ bind-cong (automaton BadStates BadFinal BadTrans "u" ar) _ _ (λ B. flat-rules b ar A B)
 
 pub whole-file : _≡_ {A = Reader Certificate} (draft >>= closing) certificate
 unfolding draft fromArities fromInitial certificate closing mergeLine merged
 whole-file =
-    assoc (fixed Budget one) fromArities closing
-    ∙ bind-cong (fixed Budget one) _ _ (λ b. assoc (fixed Arities (λ kind. arityList)) (fromInitial b) closing
+    assoc (fixed Budget singleNumber) fromArities closing
+    ∙ bind-cong (fixed Budget singleNumber) _ _ (λ b. assoc (fixed Arities (λ kind. arityList)) (fromInitial b) closing
     ∙ bind-cong (fixed Arities (λ kind. arityList)) _ _ (λ ar. assoc (automaton States Final Trans "t" ar) (fromBad b ar) closing
     ∙ bind-cong (automaton States Final Trans "t" ar) _ _ (λ A. flat-bad b ar A ∙ flat BadStates BadFinal BadTrans "u" ar _)
     ∙ flat States Final Trans "t" ar _))
@@ -107,23 +106,23 @@ module _ (file : List ℕ) where
 gave-same : {X : Type 0} (x y : X) (l m : ℕ) (bs cs : List ℕ) → gave x l bs ≡ gave y m cs → x ≡ y
 gave-same x y l m bs cs e = cc
 
-number-range : (K : Kind) (line : ℕ) (bs : List ℕ) (v l : ℕ) (cs : List ℕ) → fixed K one line bs ≡ gave v l cs → InRow K v
+number-range : (K : Kind) (line : ℕ) (bs : List ℕ) (v l : ℕ) (cs : List ℕ) → fixed K singleNumber line bs ≡ gave v l cs → InRow K v
 unfolding fixed lineOf
-number-range K line bs v l cs e = go (judgedLine (row K .key) (one K) bs) refl e
+number-range K line bs v l cs e = go (checkedLine (row K .key) (singleNumber K) bs) refl e
   where
-    go : (j : Judged (Said ℕ)) → judgedLine (row K .key) (one K) bs ≡ j → onLine line j ≡ gave v l cs → InRow K v
+    go : (j : Checked (Said ℕ)) → checkedLine (row K .key) (singleNumber K) bs ≡ j → onLine line j ≡ gave v l cs → InRow K v
     go (fault n) p q = unfold onLine in (let z : _≡_ {A = ℕ} 0 1 = cc in absurd (omega arith))
     go (says s) p q =
-        let (value, w) = judged-at _ (one K) bs s (sym (judged-is (row K .key) (one K) bs) ∙ p) in
+        let (value, w) = judged-at _ (singleNumber K) bs s (sym (judged-is (row K .key) (singleNumber K) bs) ∙ p) in
         let same : s .what ≡ v = unfold onLine in (cc) in
         one-in K value v (w ∙ ap says same)
 
 automaton-states : (K1 K2 K3 : Kind) (key : String) (ar : List ℕ) (line : ℕ) (bs : List ℕ) (A : Automaton) (l : ℕ) (cs : List ℕ) → automaton K1 K2 K3 key ar line bs ≡ gave A l cs → A .states ≤ row K1 .greatest
 unfolding automaton fromFinal fromTrans fromRows give _>>=_
 automaton-states K1 K2 K3 key ar line bs A l cs e =
-    let (n, k1, d1, p1, q1) = steps (fixed K1 one line bs) _ e in
+    let (n, k1, d1, p1, q1) = steps (fixed K1 singleNumber line bs) _ e in
     let (f, k2, d2, p2, q2) = steps (fixed K2 (λ kind. finalList kind n) k1 d1) _ q1 in
-    let (c, k3, d3, p3, q3) = steps (fixed K3 one k2 d2) _ q2 in
+    let (c, k3, d3, p3, q3) = steps (fixed K3 singleNumber k2 d2) _ q2 in
     let (ts, k4, d4, p4, q4) = steps (times c (lineOf key (transition ar n)) k3 d3) _ q3 in
     let same = gave-same _ A k4 l d4 cs q4 in
     rw (← same) (number-range K1 line bs n k1 d1 p1 .1)
@@ -131,11 +130,11 @@ automaton-states K1 K2 K3 key ar line bs A l cs e =
 pub draft-states : (line : ℕ) (bs : List ℕ) (d : Draft) (l : ℕ) (cs : List ℕ) → draft line bs ≡ gave d l cs → d .A .states ≤ 32
 unfolding draft fromArities fromInitial fromBad fromRuleCount fromRules give _>>=_
 draft-states line bs d l cs e =
-    let (b, k1, d1, p1, q1) = steps (fixed Budget one line bs) _ e in
+    let (b, k1, d1, p1, q1) = steps (fixed Budget singleNumber line bs) _ e in
     let (ar, k2, d2, p2, q2) = steps (fixed Arities (λ kind. arityList) k1 d1) _ q1 in
     let (A, k3, d3, p3, q3) = steps (automaton States Final Trans "t" ar k2 d2) _ q2 in
     let (B, k4, d4, p4, q4) = steps (automaton BadStates BadFinal BadTrans "u" ar k3 d3) _ q3 in
-    let (n, k5, d5, p5, q5) = steps (fixed Rules one k4 d4) _ q4 in
+    let (n, k5, d5, p5, q5) = steps (fixed Rules singleNumber k4 d4) _ q4 in
     let (rs, k6, d6, p6, q6) = steps (times n (rule ar) k5 d5) _ q5 in
     let same = gave-same _ d k6 l d6 cs q6 in
     let few : A .states ≤ 32 = unfold row in (automaton-states States Final Trans "t" ar k2 d2 A k3 d3 p3) in

@@ -9,38 +9,39 @@ use lib.ListN.{length, drop, take, getD, length-append, length-map}
 use lib.Seq.{split-at, length-take-le}
 use Rattle.theory.specs.Lists.{countFrom}
 use Rattle.theory.specs.Term.{Term, var}
-use Rattle.theory.specs.Preorder.{Token, function, argument, preorder}
+use Rattle.theory.specs.Preorder.{Token, symbol, variable, preorder}
 use Rattle.theory.specs.Rewriting.{Rule, variableCount}
-use Rattle.paper.specs.Judged.{Judged, says}
+use Rattle.paper.specs.Checked.{Checked, says}
 use Rattle.paper.specs.Fields.{all}
-use Rattle.paper.specs.Sides.{known}
+use Rattle.paper.specs.Sides.{permitted}
 use Rattle.paper.specs.WellFormed.{GoodTerm, GoodRule}
+use Rattle.paper.proofs.Tokens.{tokens-exact}
 use Rattle.paper.proofs.Preorder.{preorder-exact}
 use Rattle.fields.specs.Padded.{padded}
-use Rattle.fields.proofs.Whole.{padded-low}
+use Rattle.fields.proofs.Whole.{padded-low, padded-length}
 use Rattle.tables.specs.Held.{tokenOf, spoken, sideAt, ruleAt, rulesOf}
 use Rattle.tables.specs.Sound.{SoundRule}
 use Rattle.blocks.specs.Packed.{byteOf, sideOf, ruleOf, sidesOf, leftCount, rightCount, packedRules}
-use Rattle.blocks.proofs.Arrays.{padded-length, padded-get, drop-padded, listed, getD-mem, mem-low}
+use Rattle.blocks.proofs.Arrays.{padded-get, drop-padded, listed, getD-mem, mem-low}
 use Rattle.blocks.proofs.RuleLaws.{sides-length, sides-append}
 
 -- tokens and their bytes
-token-back : (ar : List ℕ) (t : Token) → length ar ≤ 64 → known ar t ≡ true → tokenOf (byteOf t) ≡ t
-unfolding tokenOf byteOf known
-token-back ar (function f) l e = rw (lt-ltb f 64 (omega (arith, ltb-true f (length ar) e)))
-token-back ar (argument x) l e = let p : 64 + x - 64 ≡ x = omega arith in rw (le-ltb (64 + x) 64 (omega arith), p)
+token-back : (ar : List ℕ) (t : Token) → length ar ≤ 64 → permitted ar t ≡ true → tokenOf (byteOf t) ≡ t
+unfolding tokenOf byteOf permitted
+token-back ar (symbol f) l e = rw (lt-ltb f 64 (omega (arith, ltb-true f (length ar) e)))
+token-back ar (variable x) l e = let p : 64 + x - 64 ≡ x = omega arith in rw (le-ltb (64 + x) 64 (omega arith), p)
 
-tokens-back : (ar : List ℕ) (ts : List Token) → length ar ≤ 64 → all (known ar) ts ≡ true → map tokenOf (map byteOf ts) ≡ ts
+tokens-back : (ar : List ℕ) (ts : List Token) → length ar ≤ 64 → all ts (permitted ar) ≡ true → map tokenOf (map byteOf ts) ≡ ts
 unfolding all
 tokens-back ar [] l e = refl
 tokens-back ar (t ∷ ts) l e =
-    let (a, b) = and-eq-true-iff (known ar t) (all (known ar) ts) .0 e in
+    let (a, b) = and-eq-true-iff (permitted ar t) (all ts (permitted ar)) .0 e in
     rw (token-back ar t l a, tokens-back ar ts l b)
 
 -- the tokens of a side, wherever they stand
 side-said : (ar tokens : List ℕ) (at n : ℕ) (t : Term ℕ) → length ar ≤ 64 → GoodTerm ar t → take n (drop at tokens) ≡ sideOf t → sideAt ar tokens at n ≡ says t
 unfolding sideAt sideOf
-side-said ar tokens at n t l g e = rw (e, tokens-back ar (preorder t) l (g .listed)) (preorder-exact ar (preorder t) t .1 (refl, g .ranked))
+side-said ar tokens at n t l g e = rw (e, tokens-back ar (preorder t) l (tokens-exact ar t .1 (g .listed, g .low))) (preorder-exact ar (preorder t) t .1 (refl, g .ranked))
 
 -- the first bytes of a padded part with others behind it
 front : (more xs : List ℕ) (m k n : ℕ) → n ≡ length xs → n ≤ m → m ≤ k → take n (padded k (padded m xs ++ more)) ≡ xs
@@ -66,7 +67,7 @@ map-get f (x ∷ xs) (suc i) d h = map-get f xs i d (omega arith)
 count-at : (f : Rule → ℕ) (rs : List Rule) (i : ℕ) (d : Rule) → i < length rs → length rs ≤ 32 → getD (padded 32 (map f rs)) i 0 ≡ f (getD rs i d)
 count-at f rs i d h l = padded-get 32 (map f rs) i (omega arith) ∙ map-get f rs i d h
 
-spoken-said : (j : Judged (Term ℕ)) (t : Term ℕ) → j ≡ says t → j ≡ says (spoken j)
+spoken-said : (j : Checked (Term ℕ)) (t : Term ℕ) → j ≡ says t → j ≡ says (spoken j)
 unfolding spoken
 spoken-said j t e = rw e
 
@@ -147,4 +148,4 @@ rules-back ar rs symbols few good = ap (λ n. map (ruleAt ar (packedRules rs)) (
 
 pub few-variables : (ar : List ℕ) (rs : List Rule) → ((r : Rule) → List·Memᴰ r rs → GoodRule ar r) → (i : ℕ) → getD (packedRules rs .variables) i 0 ≤ 4
 unfolding packedRules
-few-variables ar rs good i = padded-low 4 32 (map variableCount rs) (mem-low variableCount 4 rs (λ r m. good r m .variables)) i
+few-variables ar rs good i = padded-low 4 32 (map variableCount rs) (mem-low variableCount 4 rs (λ r m. good r m .few)) i

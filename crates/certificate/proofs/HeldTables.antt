@@ -10,11 +10,12 @@ use lib.Dec.{eqb, leb}
 use lib.Bits.{bitOr}
 use lib.ListN.{length, drop, take, getD, List·getD-append}
 use lib.Seq.{split-at, getD-append-add, length-take-le}
-use Rattle.theory.specs.Lists.{some}
+use Rattle.theory.specs.Lists.{any}
 use Rattle.theory.specs.Automaton.{Automaton, Transition}
 use Rattle.paper.specs.Tables.{ascending}
 use Rattle.paper.specs.WellFormed.{GoodTransition, GoodAutomaton}
 use Rattle.paper.proofs.Smallest.{decided}
+use Rattle.paper.proofs.Words.{ascending-exact}
 use Rattle.fields.specs.Padded.{padded}
 use Rattle.fields.proofs.Whole.{padded-low}
 use Rattle.sets.specs.Sets.{mem}
@@ -93,24 +94,24 @@ unfolding packedRows
 table-small ar A l g i = omega (arith, padded-low 63 640 (rowsOf (A .transitions)) (rows-low ar (A .states) (A .transitions) l (omega (arith, g .most-states)) (g .transitions)) i)
 
 -- Masks: the members of a mask are the states that it was made of.
-mem-mask : (qs : List ℕ) (m x : ℕ) → mem (maskFrom m qs) x ≡ (mem m x || some qs (eqb x))
-unfolding maskFrom some
+mem-mask : (qs : List ℕ) (m x : ℕ) → mem (maskFrom m qs) x ≡ (mem m x || any qs (eqb x))
+unfolding maskFrom any
 mem-mask [] m x = sym (or-false (mem m x))
 mem-mask (q ∷ qs) m x =
     mem-mask qs (bitOr m (2 ^ q)) x
-    ∙ ap (λ (b : Bool). b || some qs (eqb x)) (ap (λ (f : ℕ → Bool). f x) (mem-with m q) ∙ ap (λ (b : Bool). mem m x || b) (eqb-sym q x))
-    ∙ or-assoc (mem m x) (eqb x q) (some qs (eqb x))
+    ∙ ap (λ (b : Bool). b || any qs (eqb x)) (ap (λ (f : ℕ → Bool). f x) (mem-with m q) ∙ ap (λ (b : Bool). mem m x || b) (eqb-sym q x))
+    ∙ or-assoc (mem m x) (eqb x q) (any qs (eqb x))
 
-not-above : (qs : List ℕ) (n m : ℕ) → ascending m qs ≡ true → n < m → some qs (eqb n) ≡ false
-unfolding ascending some
+not-above : (qs : List ℕ) (n m : ℕ) → ascending m qs ≡ true → n < m → any qs (eqb n) ≡ false
+unfolding ascending any
 not-above [] n m e h = refl
 not-above (q ∷ qs) n m e h =
     let (a, b) = and-eq-true-iff (leb m q) (ascending (suc q) qs) .0 e in
     let l = leb-true m q a in
     rw (ne-eqb n q (λ z. omega arith)) (not-above qs n (suc q) b (omega arith))
 
-members-are : (mask n k : ℕ) (qs : List ℕ) → ascending n qs ≡ true → ((q : ℕ) → List·Memᴰ q qs → q < n + k) → ((x : ℕ) → n ≤ x → mem mask x ≡ some qs (eqb x)) → members mask n k ≡ qs
-unfolding members ascending some
+members-are : (mask n k : ℕ) (qs : List ℕ) → ascending n qs ≡ true → ((q : ℕ) → List·Memᴰ q qs → q < n + k) → ((x : ℕ) → n ≤ x → mem mask x ≡ any qs (eqb x)) → members mask n k ≡ qs
+unfolding members ascending any
 members-are mask n zero [] e h g = refl
 members-are mask n zero (q ∷ qs) e h g =
     let l = leb-true n q (and-eq-true-iff (leb n q) (ascending (suc q) qs) .0 e .0) in
@@ -133,10 +134,10 @@ members-are mask n (suc k) (q ∷ qs) e h g =
     ]
 
 pub final-back : (qs : List ℕ) (n : ℕ) → ascending 0 qs ≡ true → ((q : ℕ) → List·Memᴰ q qs → q < n) → members (maskFrom 0 qs) 0 n ≡ qs
-final-back qs n e h = members-are (maskFrom 0 qs) 0 n qs e (λ q m. omega (arith, h q m)) (λ x l. mem-mask qs 0 x ∙ ap (λ (f : ℕ → Bool). f x || some qs (eqb x)) mem-zero)
+final-back qs n e h = members-are (maskFrom 0 qs) 0 n qs e (λ q m. omega (arith, h q m)) (λ x l. mem-mask qs 0 x ∙ ap (λ (f : ℕ → Bool). f x || any qs (eqb x)) mem-zero)
 
 -- The table holds its automaton.
 pub table-back : (ar : List ℕ) (A : Automaton) → ((a : ℕ) → getD ar a 0 ≤ 3) → GoodAutomaton ar A → automatonOf ar (tableOf A) ≡ A
 unfolding automatonOf tableOf
 table-back ar A low g =
-    rw (moves-back ar (A .states) (A .transitions) low (g .transitions) (g .most-transitions), final-back (A .final) (A .states) (g .final-ascending) (g .final))
+    rw (moves-back ar (A .states) (A .transitions) low (g .transitions) (g .most-transitions), final-back (A .final) (A .states) (ascending-exact (A .final) .1 (g .final-ascending)) (g .final))

@@ -6,10 +6,10 @@ use mathlib.Core.Logic.{inl, inr}
 use Prim.Native.Nat.{ℕ, zero, suc, _≤_, _<_}
 use native.Mathlib.Omega.{arith}
 use lib.ListN.{length, getD}
-use Rattle.theory.specs.Merging.{classes}
+use Rattle.theory.specs.Automaton.{classes}
 use Rattle.paper.specs.Certificate.{Certificate}
 use Rattle.paper.specs.WellFormed.{WellFormed}
-use Rattle.paper.specs.Format.{Reading, File, malformed, holds, readFile, Refusal, too-long, on-line}
+use Rattle.paper.specs.Format.{Reading, File, unreadable, holds, readFile, Refusal, too-long, on-line}
 use Rattle.paper.proofs.Admitted.{admitted}
 use Rattle.paper.proofs.Refused.{refused-or-holds}
 use Rattle.tables.specs.Held.{automatonOf, rulesOf, aritiesOf, mergeOf, held}
@@ -24,8 +24,8 @@ use Rattle.blocks.specs.Handed.{Handed}
 use Rattle.blocks.proofs.Chain.{one-handed}
 use Rattle.blocks.specs.Packed.{rowsOf, packedRows, tableOf, packedRules, tablesOf, mergingOf, noTables, noMerging}
 use Rattle.certificate.specs.Read.{lineAt, lineNumber, draftOf, readOf, refusedRead, saidRead}
-use Rattle.fields.proofs.Whole.{padded-low}
-use Rattle.blocks.proofs.Arrays.{padded-length, take-padded, list-low}
+use Rattle.fields.proofs.Whole.{padded-low, padded-length}
+use Rattle.blocks.proofs.Arrays.{take-padded, list-low}
 use Rattle.certificate.proofs.HeldTables.{table-back, table-small}
 use Rattle.certificate.proofs.HeldRules.{rules-back, sound-rule, noRule, few-variables}
 
@@ -93,7 +93,7 @@ module _ (c : Certificate) (w : WellFormed c) where
       counted e = unfold mergingOf in (ap classes (sym e))
 
 -- A refusal's number and its line are never 0.
-refusal-above : (file : List ℕ) (n : ℕ) (line : Option ℕ) → readFile file ≡ malformed n line → (0 < n) × ((l : ℕ) → line ≡ some l → 0 < l)
+refusal-above : (file : List ℕ) (n : ℕ) (line : Option ℕ) → readFile file ≡ unreadable n line → (0 < n) × ((l : ℕ) → line ≡ some l → 0 < l)
 refusal-above file n line e = elim (refused-or-holds file) [
   | inl (m, at, d, r) ↦ let same : m ≡ n = cc in let here : at ≡ line = cc in rw (← same, ← here) (above r)
   | inr (c, d) ↦ let z : _≡_ {A = ℕ} 0 1 = cc in absurd (omega arith)
@@ -104,22 +104,22 @@ refusal-above file n line e = elim (refused-or-holds file) [
     above (on-line {line = k} a b c d) = (omega arith, λ l e. let same : k ≡ l = cc in omega arith)
 
 -- What is answered says what the file is.
-said-file : (f : File) → ((n : ℕ) (line : Option ℕ) → f ≡ malformed n line → (0 < n) × ((l : ℕ) → line ≡ some l → 0 < l)) → ((c : Certificate) → f ≡ holds c → WellFormed c) → saidRead (readOf f) ≡ f
+said-file : (f : File) → ((n : ℕ) (line : Option ℕ) → f ≡ unreadable n line → (0 < n) × ((l : ℕ) → line ≡ some l → 0 < l)) → ((c : Certificate) → f ≡ holds c → WellFormed c) → saidRead (readOf f) ≡ f
 unfolding saidRead readOf refusedRead lineNumber lineAt
 said-file (holds c) h g = ap holds (held-back c (g c refl))
-said-file (malformed zero line) h g = absurd (omega (arith, h zero line refl .0))
-said-file (malformed (suc n) none) h g = refl
-said-file (malformed (suc n) (some zero)) h g = absurd (omega (arith, h (suc n) (some zero) refl .1 zero refl))
-said-file (malformed (suc n) (some (suc l))) h g = refl
+said-file (unreadable zero line) h g = absurd (omega (arith, h zero line refl .0))
+said-file (unreadable (suc n) none) h g = refl
+said-file (unreadable (suc n) (some zero)) h g = absurd (omega (arith, h (suc n) (some zero) refl .1 zero refl))
+said-file (unreadable (suc n) (some (suc l))) h g = refl
 
 pub said-read : (file : List ℕ) → saidRead (readOf (readFile file)) ≡ readFile file
 said-read file = said-file (readFile file) (refusal-above file) (admitted file)
 
 -- Read without a refusal, the tables are sound.
-sound-file : (f : File) → ((n : ℕ) (line : Option ℕ) → f ≡ malformed n line → (0 < n) × ((l : ℕ) → line ≡ some l → 0 < l)) → ((c : Certificate) → f ≡ holds c → WellFormed c) → readOf f .refusal ≡ 0 → Sound (readOf f .tables) (readOf f .merging)
+sound-file : (f : File) → ((n : ℕ) (line : Option ℕ) → f ≡ unreadable n line → (0 < n) × ((l : ℕ) → line ≡ some l → 0 < l)) → ((c : Certificate) → f ≡ holds c → WellFormed c) → readOf f .refusal ≡ 0 → Sound (readOf f .tables) (readOf f .merging)
 unfolding readOf refusedRead
 sound-file (holds c) h g e = sound c (g c refl)
-sound-file (malformed n line) h g e = absurd (omega (arith, h n line refl .0))
+sound-file (unreadable n line) h g e = absurd (omega (arith, h n line refl .0))
 
 pub read-sound : (file : List ℕ) (r : Read) → r ≡ readOf (readFile file) → r .refusal ≡ 0 → Sound (r .tables) (r .merging)
 read-sound file r e z = rw e (sound-file (readFile file) (refusal-above file) (admitted file) (sym (ap (λ (x : Read). x .refusal) e) ∙ z))

@@ -2,7 +2,7 @@
 use mathlib.Core.Option.{Option, none, some}
 use Prim.Native.Nat.{ℕ, zero, suc}
 use Rattle.paper.specs.Certificate.{Certificate}
-use Rattle.paper.specs.Format.{File, malformed, holds}
+use Rattle.paper.specs.Format.{File, unreadable, holds}
 use Rattle.tables.specs.Held.{held}
 use Rattle.blocks.specs.Draft.{Draft}
 use Rattle.blocks.specs.Packed.{tablesOf, mergingOf, noTables, noMerging}
@@ -22,7 +22,7 @@ lineNumber (some n) = n
 
 -- The refusal, or the certificate that the tables hold where the number is 0.
 unfoldable pub saidRead : Read → File
-saidRead r = elim (r .refusal) [ zero ↦ holds (held (r .tables) (r .merging)) | suc n ↦ malformed (suc n) (lineAt (r .line)) ]
+saidRead r = elim (r .refusal) [ zero ↦ holds (held (r .tables) (r .merging)) | suc n ↦ unreadable (suc n) (lineAt (r .line)) ]
 
 -- All of a certificate but its merging.
 unfoldable pub draftOf : Certificate → Draft
@@ -39,5 +39,5 @@ stopRead (Refused number line) = refusedRead number line
 
 -- What is answered for a file.
 unfoldable pub readOf : File → Read
-readOf (malformed number line) = refusedRead number (lineNumber line)
+readOf (unreadable number line) = refusedRead number (lineNumber line)
 readOf (holds c) = record { refusal = 0; line = 0; tables = tablesOf (draftOf c); merging = mergingOf (c .merge) }

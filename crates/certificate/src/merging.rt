@@ -2,7 +2,7 @@
 ghost use mathlib.Core.Path.{_≡_};
 ghost use Prim.Native.Nat.{ℕ, _+_, _≤_, _<_, _^_, max};
 ghost use lib.ListN.{getD, take, drop};
-ghost use Rattle.theory.specs.Merging.{classes as classCount};
+ghost use Rattle.theory.specs.Automaton.{classes as classCount};
 ghost use Rattle.blocks.specs.Packed.{mergingOf, noMerging};
 ghost use Rattle.blocks.specs.Draft.{mergeLine};
 ghost use Rattle.blocks.specs.Handed.{Handed};

@@ -2,30 +2,31 @@
 use mathlib.Core.Path.{_≡_, refl, sym, ap, _∙_}
 use mathlib.Core.Logic.{inl, inr}
 use mathlib.Core.List.{List, [], List·Memᴰ}
-use mathlib.Core.Option.{Option}
+use mathlib.Core.Option.{Option, none, some}
 use Prim.Native.Nat.{ℕ, _≤_, _<_}
 use native.Mathlib.Omega.{arith}
 use borrow.Author.Tests.{ltb-true, ltb-false}
 use lib.Dec.{ltb}
 use lib.ListN.{length, take, drop, getD}
-use Rattle.theory.specs.Safe.{Safe}
-use Rattle.theory.specs.Merging.{classes, merged}
+use Rattle.theory.specs.Rewriting.{Safe}
+use Rattle.theory.specs.Automaton.{classes, merged}
 use Rattle.theory.specs.Critical.{Acritical, Suitable}
 use Rattle.paper.specs.Bytes.{bytes}
-use Rattle.paper.specs.Limits.{leastBuffer}
+use Rattle.paper.specs.Limits.{mostBytes, leastBuffer}
 use Rattle.paper.specs.Certificate.{Certificate}
-use Rattle.paper.specs.Format.{File, malformed as refused, holds, readFile}
-use Rattle.paper.specs.Verdict.{Verdict, malformed, unsuitable, critical, accepted, stopped, verdictOn, verdictOf}
-use Rattle.paper.specs.Meaning.{total, Means, Given}
+use Rattle.paper.specs.Format.{File, unreadable, holds, readFile}
+use Rattle.paper.specs.Meaning.{malformed, unsuitable, critical, accepted, stopped, Verdict, total, Means, Given}
+use Rattle.paper.specs.Computed.{verdictOn, verdictOf}
 use Rattle.paper.specs.Answer.{lineWith, eight, answer, answerOf}
 use Rattle.paper.specs.Contract.{Returned, refusal, returned}
-use Rattle.paper.specs.Known.{Row, table, lines}
+use Rattle.paper.specs.Layout.{First, laidCertificate}
+use Rattle.paper.specs.Known.{Worked, table, lines}
 use Rattle.paper.proofs.Smallest.{decided}
 use Rattle.paper.proofs.Known.{known}
+use Rattle.paper.proofs.Refused.{refused-exact, too-long-exact}
 use Rattle.paper.proofs.Demands.{given-exactly, accepted-exactly, malformed-exactly, accepted-is-safe}
 use Rattle.paper.proofs.Contract.{short-untouched, answer-stands, rest-stays, number-and-length}
-use Rattle.paper.proofs.Distinct.{Small}
-use Rattle.paper.proofs.Told.{answer-tells}
+use Rattle.paper.proofs.Distinct.{answer-tells}
 use Rattle.checker.specs.declared.Answered.{Answered}
 use Rattle.checker.specs.Gave.{gave, Answers, Begins}
 
@@ -59,7 +60,7 @@ unfolding verdictOf verdictOn
 accepted-holds file n e = go (readFile file) refl
   where
     go : (f : File) → readFile file ≡ f → (c : Certificate) × (readFile file ≡ holds c)
-    go (refused number line) r = let d : malformed number line ≡ accepted n = rw r at e in let z : _≡_ {A = ℕ} 0 1 = cc in absurd (omega arith)
+    go (unreadable number line) r = let d : malformed number line ≡ accepted n = rw r at e in let z : _≡_ {A = ℕ} 0 1 = cc in absurd (omega arith)
     go (holds c) r = (c, r)
 
 -- A verdict that is given to tables is no refusal.
@@ -87,12 +88,19 @@ module _ (file buffer : List ℕ) (r : Answered) (left : List ℕ) (given : Answ
       (ap (λ (x : Returned). x .number) given ∙ number, n, rw (b, n) (answer-stands file buffer h), rw (b, n) (rest-stays file buffer h))
 
   -- A refused file: its number and its line.
-  pub refused-written : leastBuffer ≤ length buffer → (number : ℕ) (line : Option ℕ) → readFile file ≡ refused number line → (take (r .length) left ≡ answer (malformed number line)) × (r .number ≡ number)
+  pub refused-written : leastBuffer ≤ length buffer → (number : ℕ) (line : Option ℕ) → readFile file ≡ unreadable number line → (take (r .length) left ≡ answer (malformed number line)) × (r .number ≡ number)
   unfolding answerOf refusal
   refused-written h n line e =
       let (number, count, bs, later) = written h in
       let is = malformed-exactly file n line .1 e in
       (bs ∙ ap answer is, number ∙ ap refusal is)
+
+  -- In the words of the table of refusals: 2 for a file that is too long, and else the first line with a reason and the smallest number on it.
+  pub too-long-written : leastBuffer ≤ length buffer → mostBytes < length file → (take (r .length) left ≡ answer (malformed 2 none)) × (r .number ≡ 2)
+  too-long-written h l = refused-written h 2 none (too-long-exact file 2 .1 (refl, l))
+
+  pub reason-written : leastBuffer ≤ length buffer → length file ≤ mostBytes → (n L : ℕ) → First (laidCertificate 1 file) n L → (take (r .length) left ≡ answer (malformed n (some L))) × (r .number ≡ n)
+  reason-written h l n L f = refused-written h n (some L) (refused-exact file n L .1 (l, f))
 
   -- Demand 2: the row of the table that holds of the file's tables is the answer written, with the number 0 ..
   pub given-written : leastBuffer ≤ length buffer → (c : Certificate) → readFile file ≡ holds c → (v : Verdict) → Given c v → (take (r .length) left ≡ answer v) × (r .number ≡ 0)
@@ -103,11 +111,11 @@ module _ (file buffer : List ℕ) (r : Answered) (left : List ℕ) (given : Answ
       (bs ∙ ap answer is, number ∙ ap refusal is ∙ not-refused c v g)
 
   -- .. and the answer written is a verdict's only where that is the file's verdict.
-  pub verdict-told : leastBuffer ≤ length buffer → (v : Verdict) → Small v → take (r .length) left ≡ answer v → verdictOf file ≡ v
-  verdict-told h v s e = let (number, count, bs, later) = written h in answer-tells file v s (sym bs ∙ e)
+  pub verdict-told : leastBuffer ≤ length buffer → (v : Verdict) → take (r .length) left ≡ answer v → verdictOf file ≡ v
+  verdict-told h v e = let (number, count, bs, later) = written h in answer-tells file v (sym bs ∙ e)
 
   -- K1 to K12: on a row's file the row's answer is written.
-  pub known-written : (row : Row) → List·Memᴰ row table → file ≡ lines (row .file) → leastBuffer ≤ length buffer → take (r .length) left ≡ lines (row .answer)
+  pub known-written : (row : Worked) → List·Memᴰ row table → file ≡ lines (row .file) → leastBuffer ≤ length buffer → take (r .length) left ≡ lines (row .answer)
   known-written row m e h = let (number, count, bs, later) = written h in bs ∙ ap answerOf e ∙ known row m
 
   -- Demand 3: if the bytes written begin `verdict=accepted`, the file holds tables, and their system is safe.
@@ -115,8 +123,8 @@ module _ (file buffer : List ℕ) (r : Answered) (left : List ℕ) (given : Answ
   unfolding answerOf
   accepted-safe b = elim (decided (ltb (length buffer) leastBuffer)) [
     | inl e ↦
-        let (one, none, same) = untouched (ltb-true (length buffer) leastBuffer e) in
-        absurd (nothing-begins (rw none at b))
+        let (one, empty, same) = untouched (ltb-true (length buffer) leastBuffer e) in
+        absurd (nothing-begins (rw empty at b))
     | inr e ↦
         let (number, count, bs, later) = written (ltb-false (length buffer) leastBuffer e) in
         let (n, is) = accepted-begins (verdictOf file) (rw bs at b) in

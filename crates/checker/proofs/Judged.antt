@@ -4,8 +4,9 @@ use mathlib.Core.List.{List}
 use Prim.Native.Nat.{ℕ, zero, suc}
 use native.Mathlib.Omega.{arith}
 use borrow.Author.Tests.{ne-eqb}
-use Rattle.paper.specs.Format.{malformed as refused, holds, readFile}
-use Rattle.paper.specs.Verdict.{malformed, verdict, verdictOn, verdictOf}
+use Rattle.paper.specs.Format.{unreadable, holds, readFile}
+use Rattle.paper.specs.Meaning.{malformed}
+use Rattle.paper.specs.Computed.{verdict, verdictOn, verdictOf}
 use Rattle.tables.specs.Held.{held}
 use Rattle.certificate.specs.declared.reading.Read.{Read}
 use Rattle.certificate.specs.Read.{lineAt, saidRead, readOf}
@@ -29,7 +30,7 @@ module _ (file : List ℕ) (r : Read) (given : r ≡ readOf (readFile file)) whe
     where
       go : (k : ℕ) → r .refusal ≡ k → malformed (r .refusal) (lineOf (r .line)) ≡ verdictOf file
       go zero e = absurd (n e)
-      go (suc k) e = let is : refused (suc k) (lineAt (r .line)) ≡ readFile file = (rw (e, saidRead) at says) in rw (← is, e, same-line (r .line))
+      go (suc k) e = let is : unreadable (suc k) (lineAt (r .line)) ≡ readFile file = (rw (e, saidRead) at says) in rw (← is, e, same-line (r .line))
 
   -- .. and else the verdict is that on what the tables hold.
   pub verdict-read : r .refusal ≡ 0 → verdict (held (r .tables) (r .merging)) ≡ verdictOf file

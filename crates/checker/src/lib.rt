@@ -7,7 +7,7 @@ ghost use mathlib.Core.Path.{_≡_};
 ghost use Prim.Native.Nat.{_≤_};
 ghost use lib.ListN.{length};
 ghost use Rattle.paper.specs.Limits.{leastBuffer};
-ghost use Rattle.paper.specs.Verdict.{verdictOf};
+ghost use Rattle.paper.specs.Computed.{verdictOf};
 ghost use Rattle.verdicts.specs.Said.{said};
 ghost use Rattle.checker.specs.Gave.{Answers};
 

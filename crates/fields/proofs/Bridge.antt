@@ -8,12 +8,12 @@ use native.Mathlib.Omega.{arith}
 use borrow.Author.Tests.{eq-eqb, ne-eqb, eqb-true, eqb-false}
 use lib.Dec.{eqb}
 use lib.ListN.{drop}
-use Rattle.paper.specs.Judged.{Judged, fault, says, _>>=_, _>>_, _unless_}
-use Rattle.paper.specs.Lines.{Line as PaperLine, Said, after, ended}
+use Rattle.paper.specs.Checked.{Checked, fault, says, _>>=_, _>>_, _unless_}
+use Rattle.paper.specs.Lines.{Said, after, ended}
 use Rattle.paper.specs.Fields.{each, entries, number}
 use Rattle.paper.specs.Tables.{numbers as numbersIn4, numbersOf}
 use Rattle.paper.proofs.Smallest.{decided}
-use Rattle.paper.proofs.Judged.{silent, parts}
+use Rattle.paper.proofs.Checked.{silent, parts}
 use Rattle.paper.proofs.Lines.{entries-sound}
 use Rattle.fields.specs.declared.cursor.Cursor.{Cursor}
 use Rattle.fields.specs.declared.cursor.Opened.{Opened}
@@ -28,7 +28,7 @@ use Rattle.fields.proofs.Entries.{saidValue, found, headed, ended-has, 
 use Rattle.fields.proofs.Rest.{next-rest}
 
 -- The key.
-unfoldable pub saidOpened : List ℕ → Opened → Judged (List ℕ)
+unfoldable pub saidOpened : List ℕ → Opened → Checked (List ℕ)
 saidOpened file (At c) = says (drop (c .at) file)
 saidOpened file Missing = fault 3
 
@@ -42,12 +42,12 @@ after-said file (k ∷ ks) (b ∷ s) at d = elim (decided (eqb b k)) [
 ]
 
 -- A line that is there: its value, and what is judged of it.
-pub record There {X : Type 0} (key : List ℕ) (judge : List ℕ → Judged X) (file : List ℕ) (at : ℕ) (c : Cursor) : Type 0 where
-  pub line : PaperLine
+pub record There {X : Type 0} (key : List ℕ) (judge : List ℕ → Checked X) (file : List ℕ) (at : ℕ) (c : Cursor) : Type 0 where
+  pub line : (Said (List ℕ))
   pub ends : ended (drop (c .at) file) ≡ says line
-  pub is : keyed key judge (drop at file) ≡ found (line .rest) (judge (line .value))
+  pub is : keyed key judge (drop at file) ≡ found (line .rest) (judge (line .what))
 
-module _ {X : Type 0} (key : List ℕ) (judge : List ℕ → Judged X) (file : List ℕ) (at : ℕ) where
+module _ {X : Type 0} (key : List ℕ) (judge : List ℕ → Checked X) (file : List ℕ) (at : ℕ) where
   ending-missing : (o : Opened) → saidOpened file o ≡ after key (drop at file) → ending file o ≡ Missing → keyed key judge (drop at file) ≡ fault 3
   unfolding ending saidOpened keyed _>>=_
   ending-missing Missing e h = rw (← e)
@@ -75,26 +75,26 @@ module _ {X : Type 0} (key : List ℕ) (judge : List ℕ → Judged X) (file : L
   keyed-at c h = ending-at (afterKey key at (drop at file)) c (after-said file key (drop at file) at refl) h
 
 -- The entries of a value, as the machine reads them; an empty value has none where it may be empty.
-unfoldable pub values : ℕ → List ℕ → Judged (List ℕ)
+unfoldable pub values : ℕ → List ℕ → Checked (List ℕ)
 values y value = each (readOn y 0 0) (entries value)
 
-unfoldable pub valuesOf : ℕ → Bool → List ℕ → Judged (List ℕ)
+unfoldable pub valuesOf : ℕ → Bool → List ℕ → Checked (List ℕ)
 valuesOf y false value = values y value
 valuesOf y true [] = says []
 valuesOf y true (b ∷ bs) = values y (b ∷ bs)
 
 -- 5: the first is above f, or another above m.
-unfoldable pub inRange : ℕ → ℕ → List ℕ → Judged (List ℕ)
+unfoldable pub inRange : ℕ → ℕ → List ℕ → Checked (List ℕ)
 inRange f m ns = 5 unless not (beyond f m ns) >> says ns
 
-unfoldable pub ranged : ℕ → ℕ → ℕ → Bool → List ℕ → Judged (List ℕ)
+unfoldable pub ranged : ℕ → ℕ → ℕ → Bool → List ℕ → Checked (List ℕ)
 ranged y f m empty value = valuesOf y empty value >>= inRange f m
 
-headed-each : (f : List ℕ → Judged ℕ) (es : List (List ℕ)) (e : List ℕ) (rest : List (List ℕ)) → es ≡ e ∷ rest → headed f f es ≡ each f es
+headed-each : (f : List ℕ → Checked ℕ) (es : List (List ℕ)) (e : List ℕ) (rest : List (List ℕ)) → es ≡ e ∷ rest → headed f f es ≡ each f es
 unfolding headed each
 headed-each f es e rest h = rw h
 
-headed-some : (f g : List ℕ → Judged ℕ) (es : List (List ℕ)) → headed f g es ≡ says [] → ⊥
+headed-some : (f g : List ℕ → Checked ℕ) (es : List (List ℕ)) → headed f g es ≡ says [] → ⊥
 unfolding headed
 headed-some f g [] h = silent h
 headed-some f g (e ∷ es) h =
@@ -102,11 +102,11 @@ headed-some f g (e ∷ es) h =
     let (ws, r, t) = parts (each g es) _ q in
     let z : _≡_ {A = ℕ} 0 1 = cc in omega arith
 
-each-some : (f : List ℕ → Judged ℕ) (value : List ℕ) → each f (entries value) ≡ says [] → ⊥
+each-some : (f : List ℕ → Checked ℕ) (value : List ℕ) → each f (entries value) ≡ says [] → ⊥
 each-some f value h = let i = entries-sound value in headed-some f f (entries value) (headed-each f (entries value) (i .first) (i .others) (i .are) ∙ h)
 
 -- A value with a byte in it.
-line-numbers : (file : List ℕ) (f m : ℕ) (empty : Bool) (x : Value) (behind : List ℕ) (j : Judged (List ℕ)) → (j ≡ says [] → ⊥)
+line-numbers : (file : List ℕ) (f m : ℕ) (empty : Bool) (x : Value) (behind : List ℕ) (j : Checked (List ℕ)) → (j ≡ says [] → ⊥)
     → saidValue file x ≡ found behind j → saidLine file (numbersIn f m empty x) ≡ found behind (j >>= inRange f m)
 unfolding saidValue found numbersIn saidLine _>>=_
 line-numbers file f m empty notNumbers behind (fault n) h e = e
@@ -137,22 +137,22 @@ module _ (file : List ℕ) (f m at y b : ℕ) (s : List ℕ) where
       some-byte true = unfold valuesOf values in refl
       some-byte false = unfold valuesOf values in refl
 
-value-said : (file s : List ℕ) (y f m : ℕ) (empty : Bool) (at : ℕ) (l : PaperLine) → back y ≡ y → drop at file ≡ s → ended s ≡ says l
-    → saidLine file (numbersIn f m empty (valueOf y at s)) ≡ found (l .rest) (ranged y f m empty (l .value))
+value-said : (file s : List ℕ) (y f m : ℕ) (empty : Bool) (at : ℕ) (l : (Said (List ℕ))) → back y ≡ y → drop at file ≡ s → ended s ≡ says l
+    → saidLine file (numbersIn f m empty (valueOf y at s)) ≡ found (l .rest) (ranged y f m empty (l .what))
 unfolding ended
 value-said file [] y f m empty at l k d e = absurd (silent e)
 value-said file (b ∷ s) y f m empty at l k d e = elim (decided (eqb b 10)) [
   | inl h ↦
       let g = rw (h, ended) at e in
-      let same : record { value = []; rest = s } ≡ l = cc in
+      let same : record { what = []; rest = s } ≡ l = cc in
       rw (← same) (at-lf file f m at y b s empty (next-rest file at b s d) h)
   | inr h ↦
       let (p, q, g) = parts (ended s) _ (rw (h, ended) at e) in
-      let same : record { value = b ∷ p .value; rest = p .rest } ≡ l = cc in
-      let i = entries-sound (b ∷ p .value) in
+      let same : record { what = b ∷ p .what; rest = p .rest } ≡ l = cc in
+      let i = entries-sound (b ∷ p .what) in
       let u = rw (← same) at (entries-said file (b ∷ s) y 0 0 at l d e) in
-      let w = rw (k, headed-each (readOn y 0 0) (entries (b ∷ p .value)) (i .first) (i .others) (i .are)) at u in
-      rw (← same) (has-byte file f m at y b s empty (p .value) (p .rest) h w)
+      let w = rw (k, headed-each (readOn y 0 0) (entries (b ∷ p .what)) (i .first) (i .others) (i .are)) at u in
+      rw (← same) (has-byte file f m at y b s empty (p .what) (p .rest) h w)
 ]
 
 -- A line of entries of kind y, each in its range.
@@ -172,12 +172,12 @@ line-said file key y f m empty at h = go (openAt key file at) refl (kind y h)
         unfold lineIn in (value-said file (drop (c .at) file) y f m empty (c .at) (t .line) k refl (t .ends) ∙ sym (t .is))
 
 -- Numbers are paper's numbers.
-coded-zero : (j : Judged ℕ) → (j >>= (λ n. says (code 0 n))) ≡ j
+coded-zero : (j : Checked ℕ) → (j >>= (λ n. says (code 0 n))) ≡ j
 unfolding _>>=_ code
 coded-zero (fault n) = refl
 coded-zero (says n) = refl
 
-each-same : (f g : List ℕ → Judged ℕ) → ((e : List ℕ) → f e ≡ g e) → (es : List (List ℕ)) → each f es ≡ each g es
+each-same : (f g : List ℕ → Checked ℕ) → ((e : List ℕ) → f e ≡ g e) → (es : List (List ℕ)) → each f es ≡ each g es
 unfolding each
 each-same f g h [] = refl
 each-same f g h (e ∷ es) = rw (h e, each-same f g h es)
@@ -197,31 +197,31 @@ unfolding values
 values-some y value h = each-some (readOn y 0 0) value h
 
 -- A further check of a line.
-unfoldable pub checking : (List ℕ → ℕ) → List ℕ → Judged (List ℕ)
+unfoldable pub checking : (List ℕ → ℕ) → List ℕ → Checked (List ℕ)
 checking k ns = elim (eqb (k ns) 0) [ true ↦ says ns | false ↦ fault (k ns) ]
 
 -- Go on with what a line said.
-unfoldable pub onward : {X Y : Type 0} → (X → Judged Y) → Said X → Judged (Said Y)
+unfoldable pub onward : {X Y : Type 0} → (X → Checked Y) → Said X → Checked (Said Y)
 onward next s = found (s .rest) (next (s .what))
 
-found-more : {X Y : Type 0} (next : X → Judged Y) (r : List ℕ) (j : Judged X) → (found r j >>= onward next) ≡ found r (j >>= next)
+found-more : {X Y : Type 0} (next : X → Checked Y) (r : List ℕ) (j : Checked X) → (found r j >>= onward next) ≡ found r (j >>= next)
 unfolding found onward _>>=_
 found-more next r (fault n) = refl
 found-more next r (says x) = refl
 
-line-more : {X Y : Type 0} (judge : List ℕ → Judged X) (next : X → Judged Y) (j : Judged PaperLine)
-    → ((j >>= (λ l. found (l .rest) (judge (l .value)))) >>= onward next) ≡ (j >>= (λ l. found (l .rest) (judge (l .value) >>= next)))
+line-more : {X Y : Type 0} (judge : List ℕ → Checked X) (next : X → Checked Y) (j : Checked (Said (List ℕ)))
+    → ((j >>= (λ l. found (l .rest) (judge (l .what)))) >>= onward next) ≡ (j >>= (λ l. found (l .rest) (judge (l .what) >>= next)))
 unfolding _>>=_
 line-more judge next (fault n) = refl
-line-more judge next (says l) = found-more next (l .rest) (judge (l .value))
+line-more judge next (says l) = found-more next (l .rest) (judge (l .what))
 
-key-more : {X Y : Type 0} (judge : List ℕ → Judged X) (next : X → Judged Y) (j : Judged (List ℕ))
-    → ((j >>= (λ behind. ended behind >>= (λ l. found (l .rest) (judge (l .value))))) >>= onward next) ≡ (j >>= (λ behind. ended behind >>= (λ l. found (l .rest) (judge (l .value) >>= next))))
+key-more : {X Y : Type 0} (judge : List ℕ → Checked X) (next : X → Checked Y) (j : Checked (List ℕ))
+    → ((j >>= (λ behind. ended behind >>= (λ l. found (l .rest) (judge (l .what))))) >>= onward next) ≡ (j >>= (λ behind. ended behind >>= (λ l. found (l .rest) (judge (l .what) >>= next))))
 unfolding _>>=_
 key-more judge next (fault n) = refl
 key-more judge next (says b) = line-more judge next (ended b)
 
-pub judge-more : {X Y : Type 0} (key : List ℕ) (judge : List ℕ → Judged X) (next : X → Judged Y) (bs : List ℕ) → (keyed key judge bs >>= onward next) ≡ keyed key (λ value. judge value >>= next) bs
+pub judge-more : {X Y : Type 0} (key : List ℕ) (judge : List ℕ → Checked X) (next : X → Checked Y) (bs : List ℕ) → (keyed key judge bs >>= onward next) ≡ keyed key (λ value. judge value >>= next) bs
 unfolding keyed found
 judge-more key judge next bs = key-more judge next (after key bs)
 
@@ -236,27 +236,27 @@ said-checked file k (good ns at) = elim (decided (eqb (k ns) 0)) [
 pub checked-said : (file key : List ℕ) (y f m : ℕ) (empty : Bool) (k : List ℕ → ℕ) (at : ℕ) → y ≤ 1
     → saidLine file (checked k (entryLine y key f m empty file at)) ≡ keyed key (λ value. ranged y f m empty value >>= checking k) (drop at file)
 checked-said file key y f m empty k at h =
-    said-checked file k _ ∙ ap (λ (j : Judged (Said (List ℕ))). j >>= onward (checking k)) (line-said file key y f m empty at h)
+    said-checked file k _ ∙ ap (λ (j : Checked (Said (List ℕ))). j >>= onward (checking k)) (line-said file key y f m empty at h)
     ∙ judge-more key (ranged y f m empty) (checking k) (drop at file)
 
 -- A line judged in another way that comes to the same.
-pub keyed-same : {X : Type 0} (key : List ℕ) (f g : List ℕ → Judged X) → ((value : List ℕ) → f value ≡ g value) → (bs : List ℕ) → keyed key f bs ≡ keyed key g bs
+pub keyed-same : {X : Type 0} (key : List ℕ) (f g : List ℕ → Checked X) → ((value : List ℕ) → f value ≡ g value) → (bs : List ℕ) → keyed key f bs ≡ keyed key g bs
 keyed-same key f g h bs = λ i. keyed key (λ value. h value i) bs
 
 -- The value alone, before any further test.
-pub value-found : (file s : List ℕ) (y at : ℕ) (l : PaperLine) → back y ≡ y → drop at file ≡ s → ended s ≡ says l → saidValue file (valueOf y at s) ≡ found (l .rest) (valuesOf y true (l .value))
+pub value-found : (file s : List ℕ) (y at : ℕ) (l : (Said (List ℕ))) → back y ≡ y → drop at file ≡ s → ended s ≡ says l → saidValue file (valueOf y at s) ≡ found (l .rest) (valuesOf y true (l .what))
 unfolding ended
 value-found file [] y at l k d e = absurd (silent e)
 value-found file (b ∷ s) y at l k d e = elim (decided (eqb b 10)) [
   | inl h ↦
       let g = rw (h, ended) at e in
-      let same : record { value = []; rest = s } ≡ l = cc in
+      let same : record { what = []; rest = s } ≡ l = cc in
       rw (← same) (unfold valueOf saidValue valuesOf found _>>=_ in (rw (h, valueOf) (rw (next-rest file at b s d))))
   | inr h ↦
       let (p, q, g) = parts (ended s) _ (rw (h, ended) at e) in
-      let same : record { value = b ∷ p .value; rest = p .rest } ≡ l = cc in
-      let i = entries-sound (b ∷ p .value) in
+      let same : record { what = b ∷ p .what; rest = p .rest } ≡ l = cc in
+      let i = entries-sound (b ∷ p .what) in
       let u = rw (← same) at (entries-said file (b ∷ s) y 0 0 at l d e) in
-      let w = rw (k, headed-each (readOn y 0 0) (entries (b ∷ p .value)) (i .first) (i .others) (i .are)) at u in
+      let w = rw (k, headed-each (readOn y 0 0) (entries (b ∷ p .what)) (i .first) (i .others) (i .are)) at u in
       rw (← same) (unfold valueOf valuesOf values in (rw (h, valueOf) w))
 ]

@@ -8,8 +8,8 @@ use native.Mathlib.Omega.{arith}
 use borrow.Author.Tests.{ne-eqb, eqb-true, eqb-false, leb-true, leb-false, le-leb, lt-leb}
 use lib.Dec.{eqb, leb}
 use lib.ListN.{length}
-use Rattle.theory.specs.Preorder.{Token, function, argument}
-use Rattle.paper.specs.Judged.{Judged, fault, says, _>>=_, _>>_, _unless_}
+use Rattle.theory.specs.Preorder.{Token, symbol, variable}
+use Rattle.paper.specs.Checked.{Checked, fault, says, _>>=_, _>>_, _unless_}
 use Rattle.paper.specs.Fields.{all, digit, isNumber, fromDigits, number, token}
 use Rattle.paper.proofs.Smallest.{decided}
 use Rattle.fields.specs.Number.{isDigit, full}
@@ -17,7 +17,7 @@ use Rattle.fields.specs.Value.{codeOf, code}
 use Rattle.fields.proofs.NumberLaws.{digit-least}
 
 -- An entry of kind y of which n digits of value v are read, and the bytes e are left.
-unfoldable pub readOn : ℕ → ℕ → ℕ → List ℕ → Judged ℕ
+unfoldable pub readOn : ℕ → ℕ → ℕ → List ℕ → Checked ℕ
 readOn y n v [] = elim (eqb n 0) [ true ↦ fault 4 | false ↦ says (code y v) ]
 readOn y n v (b ∷ e) = elim (isDigit b) [
   | true ↦ elim (full n v) [ true ↦ fault 4 | false ↦ readOn y (n + 1) (v * 10 + (b - 48)) e ]
@@ -25,8 +25,8 @@ readOn y n v (b ∷ e) = elim (isDigit b) [
 ]
 
 -- The test of what is left of a number.
-abbrev rest : ℕ → ℕ → ℕ → List ℕ → Judged ℕ
-rest y n v e = 4 unless (all digit e && leb (n + length e) 8) >> says (code y (fromDigits v e))
+abbrev rest : ℕ → ℕ → ℕ → List ℕ → Checked ℕ
+rest y n v e = 4 unless (all e digit && leb (n + length e) 8) >> says (code y (fromDigits v e))
 
 same-digit : (b : ℕ) → digit b ≡ isDigit b
 unfolding digit isDigit
@@ -51,7 +51,7 @@ more-digits y n v [] h z = rw (le-leb (suc n + 0) 8 (omega arith), ne-eqb (suc n
 more-digits y n v (b ∷ e) h z = elim (decided (isDigit b)) [
   | inr d ↦ rw (same-digit b, d, ne-eqb (suc n) 0 (λ k. omega arith), readOn)
   | inl d ↦ elim (decided (leb 8 (suc n))) [
-    | inl f ↦ rw (d, full-eight (suc n) v f, readOn) (rw (same-digit b, d, lt-leb (suc n + suc (length e)) 8 (omega (arith, leb-true 8 (suc n) f)), and-false (all digit e)))
+    | inl f ↦ rw (d, full-eight (suc n) v f, readOn) (rw (same-digit b, d, lt-leb (suc n + suc (length e)) 8 (omega (arith, leb-true 8 (suc n) f)), and-false (all e digit)))
     | inr f ↦
         let ih = more-digits y (suc n) (v * 10 + (b - 48)) e (omega (arith, leb-false 8 (suc n) f)) (λ k. z (omega arith)) in
         let p : suc n + 1 ≡ suc (suc n) = omega arith in
@@ -60,7 +60,7 @@ more-digits y n v (b ∷ e) h z = elim (decided (isDigit b)) [
         more-step y (suc n) v b e d (full-not n v f z)
         ∙ ap (λ k. readOn y k (v * 10 + (b - 48)) e) p
         ∙ ih
-        ∙ rw (same-digit b, d) (ap (λ k. 4 unless (all digit e && leb k 8) >> says (code y (fromDigits (v * 10 + (b - 48)) e))) q ∙ ap (λ k. 4 unless (all digit e && leb (suc n + suc (length e)) 8) >> says (code y (fromDigits k e))) r)
+        ∙ rw (same-digit b, d) (ap (λ k. 4 unless (all e digit && leb k 8) >> says (code y (fromDigits (v * 10 + (b - 48)) e))) q ∙ ap (λ k. 4 unless (all e digit && leb (suc n + suc (length e)) 8) >> says (code y (fromDigits k e))) r)
   ]
 ]
 
@@ -73,7 +73,7 @@ after-zero y b e = elim (decided (isDigit b)) [
 ]
 
 -- A number from its first byte, where no `x` can come.
-abbrev coded : ℕ → Judged ℕ → Judged ℕ
+abbrev coded : ℕ → Checked ℕ → Checked ℕ
 coded y j = j >>= (λ n. says (code y n))
 
 first-digit : (y b : ℕ) (e : List ℕ) → isDigit b ≡ true → readOn y 1 (0 * 10 + (b - 48)) e ≡ coded y (number (b ∷ e))
@@ -85,10 +85,10 @@ first-digit y b (c ∷ e) d = elim (decided (eqb b 48)) [
       let p : 0 * 10 + (b - 48) ≡ 10 * 0 + (b - 48) = omega arith in
       let w : 1 + suc (length e) ≡ suc (suc (length e)) = omega arith in
       more-digits y 0 (0 * 10 + (b - 48)) (c ∷ e) (omega arith) (λ k. eqb-false b 48 z (omega arith))
-      ∙ rw (z, p, same-digit b, d, w) (go (digit c && all digit e) (leb (suc (suc (length e))) 8))
+      ∙ rw (z, p, same-digit b, d, w) (go (digit c && all e digit) (leb (suc (suc (length e))) 8))
 ]
   where
-    go : (s t : Bool) → _≡_ {A = Judged ℕ} (4 unless (s && t) >> says (code y (fromDigits (10 * 0 + (b - 48)) (c ∷ e)))) (coded y (4 unless (s && t) >> says (fromDigits (10 * 0 + (b - 48)) (c ∷ e))))
+    go : (s t : Bool) → _≡_ {A = Checked ℕ} (4 unless (s && t) >> says (code y (fromDigits (10 * 0 + (b - 48)) (c ∷ e)))) (coded y (4 unless (s && t) >> says (fromDigits (10 * 0 + (b - 48)) (c ∷ e))))
     go true true = refl
     go true false = refl
     go false t = refl
@@ -109,7 +109,7 @@ read-number y (b ∷ e) h = elim (decided (isDigit b)) [
   | inr d ↦ unfold readOn in (rw (d, readOn) (rw (ne-eqb y 1 h) (not-digit y b d e)))
 ]
 
-turn : (y : ℕ) (f : ℕ → Token) → ((n : ℕ) → codeOf (f n) ≡ code y n) → (j : Judged ℕ) → coded y j ≡ ((j >>= (λ n. says (f n))) >>= (λ t. says (codeOf t)))
+turn : (y : ℕ) (f : ℕ → Token) → ((n : ℕ) → codeOf (f n) ≡ code y n) → (j : Checked ℕ) → coded y j ≡ ((j >>= (λ n. says (f n))) >>= (λ t. says (codeOf t)))
 unfolding _>>=_
 turn y f h (fault n) = refl
 turn y f h (says n) = ap says (sym (h n))
@@ -127,6 +127,6 @@ read-token [] = unfold readOn in refl
 read-token (b ∷ e) = elim (decided (eqb b 120)) [
   | inl x ↦
       let same : b ≡ 120 = eqb-true b 120 x in
-      rw (x, token) (rw same (unfold readOn isDigit in (read-number 2 e (λ z. let k : _≡_ {A = ℕ} 2 1 = z in absurd (omega arith)) ∙ turn 2 argument (λ n. refl) (number e))))
-  | inr x ↦ rw (x, token) (no-x b e x ∙ turn 1 function (λ n. refl) (number (b ∷ e)))
+      rw (x, token) (rw same (unfold readOn isDigit in (read-number 2 e (λ z. let k : _≡_ {A = ℕ} 2 1 = z in absurd (omega arith)) ∙ turn 2 variable (λ n. refl) (number e))))
+  | inr x ↦ rw (x, token) (no-x b e x ∙ turn 1 symbol (λ n. refl) (number (b ∷ e)))
 ]

@@ -8,11 +8,11 @@ use native.Mathlib.Omega.{arith}
 use borrow.Author.Tests.{eqb-true}
 use lib.Dec.{eqb}
 use lib.ListN.{drop}
-use Rattle.paper.specs.Judged.{Judged, fault, says, _>>=_}
-use Rattle.paper.specs.Lines.{Line, Said, ended}
+use Rattle.paper.specs.Checked.{Checked, fault, says, _>>=_}
+use Rattle.paper.specs.Lines.{Said, ended}
 use Rattle.paper.specs.Fields.{each, entries, lengthen}
 use Rattle.paper.proofs.Smallest.{decided}
-use Rattle.paper.proofs.Judged.{silent, parts}
+use Rattle.paper.proofs.Checked.{silent, parts}
 use Rattle.paper.proofs.Lines.{entries-sound}
 use Rattle.fields.specs.Number.{isDigit, full}
 use Rattle.fields.specs.Value.{Value, numbers, notNumbers, withFirst, code, back, entriesFrom}
@@ -21,20 +21,20 @@ use Rattle.fields.proofs.Digits.{readOn}
 use Rattle.fields.proofs.Rest.{next-rest}
 
 -- A value that the machine found, in paper's words.
-unfoldable pub saidValue : List ℕ → Value → Judged (Said (List ℕ))
+unfoldable pub saidValue : List ℕ → Value → Checked (Said (List ℕ))
 saidValue file (numbers ns at) = says (record { what = ns; rest = drop at file })
 saidValue file notNumbers = fault 4
 
 -- What is judged of a value, with the bytes behind it.
-unfoldable pub found : {X : Type 0} → List ℕ → Judged X → Judged (Said X)
+unfoldable pub found : {X : Type 0} → List ℕ → Checked X → Checked (Said X)
 found behind j = j >>= (λ x. says (record { what = x; rest = behind }))
 
 -- The first entry read by f and the others by g.
-unfoldable pub headed : (f g : List ℕ → Judged ℕ) → List (List ℕ) → Judged (List ℕ)
+unfoldable pub headed : (f g : List ℕ → Checked ℕ) → List (List ℕ) → Checked (List ℕ)
 headed f g [] = fault 4
 headed f g (e ∷ es) = f e >>= (λ w. each g es >>= (λ ws. says (w ∷ ws)))
 
-onto : ℕ → Judged (Said (List ℕ)) → Judged (Said (List ℕ))
+onto : ℕ → Checked (Said (List ℕ)) → Checked (Said (List ℕ))
 onto c j = j >>= (λ s. says (record { what = c ∷ s .what; rest = s .rest }))
 
 said-first : (file : List ℕ) (c : ℕ) (x : Value) → saidValue file (withFirst c x) ≡ onto c (saidValue file x)
@@ -42,13 +42,13 @@ unfolding saidValue onto _>>=_
 said-first file c (numbers ns at) = refl
 said-first file c notNumbers = refl
 
-onto-found : (c : ℕ) (behind : List ℕ) (j : Judged (List ℕ)) → onto c (found behind j) ≡ found behind (j >>= (λ ws. says (c ∷ ws)))
+onto-found : (c : ℕ) (behind : List ℕ) (j : Checked (List ℕ)) → onto c (found behind j) ≡ found behind (j >>= (λ ws. says (c ∷ ws)))
 unfolding found onto _>>=_
 onto-found c behind (fault n) = refl
 onto-found c behind (says ws) = refl
 
 -- One byte more in front of the first entry.
-longer : (f k g : List ℕ → Judged ℕ) (b : ℕ) (e : List ℕ) (es : List (List ℕ)) → f e ≡ k (b ∷ e) → headed f g (e ∷ es) ≡ headed k g ((b ∷ e) ∷ es)
+longer : (f k g : List ℕ → Checked ℕ) (b : ℕ) (e : List ℕ) (es : List (List ℕ)) → f e ≡ k (b ∷ e) → headed f g (e ∷ es) ≡ headed k g ((b ∷ e) ∷ es)
 unfolding headed
 longer f k g b e es h = ap (λ j. j >>= (λ w. each g es >>= (λ ws. says (w ∷ ws)))) h
 
@@ -57,12 +57,12 @@ back-back zero = refl
 back-back (suc y) = refl
 
 -- A value that ends in LF has an end.
-pub ended-has : (s : List ℕ) → hasEnd s ≡ true → (l : Line) × (ended s ≡ says l)
+pub ended-has : (s : List ℕ) → hasEnd s ≡ true → (l : (Said (List ℕ))) × (ended s ≡ says l)
 unfolding hasEnd ended _>>=_
 ended-has [] h = let z : _≡_ {A = ℕ} 0 1 = cc in absurd (omega arith)
 ended-has (b ∷ s) h = elim (decided (eqb b 10)) [
-  | inl p ↦ (record { value = []; rest = s }, rw (p, ended))
-  | inr p ↦ let (l, e) = ended-has s (rw (p, hasEnd) at h) in (record { value = b ∷ l .value; rest = l .rest }, rw (p, ended) (rw e))
+  | inl p ↦ (record { what = []; rest = s }, rw (p, ended))
+  | inr p ↦ let (l, e) = ended-has s (rw (p, hasEnd) at h) in (record { what = b ∷ l .what; rest = l .rest }, rw (p, ended) (rw e))
 ]
 
 pub ended-not : (s : List ℕ) → hasEnd s ≡ false → ended s ≡ fault 3
@@ -143,15 +143,15 @@ both-x : (y : ℕ) (t : Bool) → (eqb y 1 && t) ≡ true → back y ≡ 1
 both-x zero t h = let z : _≡_ {A = ℕ} 0 1 = cc in absurd (omega arith)
 both-x (suc y) t h = refl
 
-one-headed : (k g : List ℕ → Judged ℕ) (w : ℕ) (behind : List ℕ) → k [] ≡ says w → says (record { what = w ∷ []; rest = behind }) ≡ found behind (headed k g ([] ∷ []))
+one-headed : (k g : List ℕ → Checked ℕ) (w : ℕ) (behind : List ℕ) → k [] ≡ says w → says (record { what = w ∷ []; rest = behind }) ≡ found behind (headed k g ([] ∷ []))
 unfolding headed found each _>>=_
 one-headed k g w behind h = rw h
 
-no-headed : (k g : List ℕ → Judged ℕ) (e : List ℕ) (es : List (List ℕ)) (behind : List ℕ) → k e ≡ fault 4 → fault 4 ≡ found behind (headed k g (e ∷ es))
+no-headed : (k g : List ℕ → Checked ℕ) (e : List ℕ) (es : List (List ℕ)) (behind : List ℕ) → k e ≡ fault 4 → fault 4 ≡ found behind (headed k g (e ∷ es))
 unfolding headed found _>>=_
 no-headed k g e es behind h = rw h
 
-comma-headed : (k g : List ℕ → Judged ℕ) (w : ℕ) (e : List ℕ) (es : List (List ℕ)) (behind : List ℕ) → k [] ≡ says w
+comma-headed : (k g : List ℕ → Checked ℕ) (w : ℕ) (e : List ℕ) (es : List (List ℕ)) (behind : List ℕ) → k [] ≡ says w
     → onto w (found behind (headed g g (e ∷ es))) ≡ found behind (headed k g ([] ∷ (e ∷ es)))
 unfolding headed each _>>=_
 comma-headed k g w e es behind h = onto-found w behind (headed g g (e ∷ es)) ∙ rw h
@@ -171,14 +171,14 @@ module _ (file : List ℕ) (y n v at b : ℕ) (s : List ℕ) where
         | inr z ↦ rw (step-lf y n v at b s (no-digit b 10 h refl) z t, d) (one-headed (readOn y n v) (readOn (back y) 0 0) (code y v) s (on-end y n v z))
       ]
 
-  at-comma : (m : Line) → eqb b 10 ≡ false → eqb b 44 ≡ true
-      → saidValue file (entriesFrom (back y) 0 0 (at + 1) s) ≡ found (m .rest) (headed (readOn (back y) 0 0) (readOn (back (back y)) 0 0) (entries (m .value)))
-      → saidValue file (entriesFrom y n v at (b ∷ s)) ≡ found (m .rest) (headed (readOn y n v) (readOn (back y) 0 0) (entries (b ∷ m .value)))
+  at-comma : (m : (Said (List ℕ))) → eqb b 10 ≡ false → eqb b 44 ≡ true
+      → saidValue file (entriesFrom (back y) 0 0 (at + 1) s) ≡ found (m .rest) (headed (readOn (back y) 0 0) (readOn (back (back y)) 0 0) (entries (m .what)))
+      → saidValue file (entriesFrom y n v at (b ∷ s)) ≡ found (m .rest) (headed (readOn y n v) (readOn (back y) 0 0) (entries (b ∷ m .what)))
   unfolding entries isDigit
   at-comma m l t ih =
       let h = eqb-true b 44 t in
-      let i = entries-sound (m .value) in
-      let q : entries (b ∷ m .value) ≡ [] ∷ (i .first ∷ i .others) = rw (t, entries) (ap (λ es. [] ∷ es) (i .are)) in
+      let i = entries-sound (m .what) in
+      let q : entries (b ∷ m .what) ≡ [] ∷ (i .first ∷ i .others) = rw (t, entries) (ap (λ es. [] ∷ es) (i .are)) in
       elim (decided (eqb n 0)) [
         | inl z ↦ said-none (m .rest) [] (i .first ∷ i .others) _ (step-none y n v at b s (no-digit b 44 h refl) z (no-x y b 44 h refl)) q (on-nothing y n v z)
         | inr z ↦
@@ -187,13 +187,13 @@ module _ (file : List ℕ) (y n v at b : ℕ) (s : List ℕ) where
             (said-first file (code y v) _ ∙ ap (onto (code y v)) ih2 ∙ comma-headed (readOn y n v) (readOn (back y) 0 0) (code y v) (i .first) (i .others) (m .rest) (on-end y n v z))
       ]
 
-  inside : (m : Line) → eqb b 10 ≡ false → eqb b 44 ≡ false
-      → ((y n v : ℕ) → saidValue file (entriesFrom y n v (at + 1) s) ≡ found (m .rest) (headed (readOn y n v) (readOn (back y) 0 0) (entries (m .value))))
-      → saidValue file (entriesFrom y n v at (b ∷ s)) ≡ found (m .rest) (headed (readOn y n v) (readOn (back y) 0 0) (entries (b ∷ m .value)))
+  inside : (m : (Said (List ℕ))) → eqb b 10 ≡ false → eqb b 44 ≡ false
+      → ((y n v : ℕ) → saidValue file (entriesFrom y n v (at + 1) s) ≡ found (m .rest) (headed (readOn y n v) (readOn (back y) 0 0) (entries (m .what))))
+      → saidValue file (entriesFrom y n v at (b ∷ s)) ≡ found (m .rest) (headed (readOn y n v) (readOn (back y) 0 0) (entries (b ∷ m .what)))
   unfolding entries lengthen
   inside m h c ih =
-      let i = entries-sound (m .value) in
-      let q : entries (b ∷ m .value) ≡ (b ∷ i .first) ∷ i .others = rw (c, entries) (ap (lengthen b) (i .are)) in
+      let i = entries-sound (m .what) in
+      let q : entries (b ∷ m .what) ≡ (b ∷ i .first) ∷ i .others = rw (c, entries) (ap (lengthen b) (i .are)) in
       elim (decided (isDigit b)) [
         | inl d ↦ elim (decided (full n v)) [
           | inl f ↦ said-none (m .rest) (b ∷ i .first) (i .others) _ (step-full y n v at b s d f) q (on-full y n v b (i .first) d f)
@@ -213,19 +213,19 @@ module _ (file : List ℕ) (y n v at b : ℕ) (s : List ℕ) where
       ]
 
 -- n digits of value v of the first entry, of kind y, stand before `at`
-pub entries-said : (file s : List ℕ) (y n v at : ℕ) (l : Line) → drop at file ≡ s → ended s ≡ says l
-    → saidValue file (entriesFrom y n v at s) ≡ found (l .rest) (headed (readOn y n v) (readOn (back y) 0 0) (entries (l .value)))
+pub entries-said : (file s : List ℕ) (y n v at : ℕ) (l : (Said (List ℕ))) → drop at file ≡ s → ended s ≡ says l
+    → saidValue file (entriesFrom y n v at s) ≡ found (l .rest) (headed (readOn y n v) (readOn (back y) 0 0) (entries (l .what)))
 unfolding ended
 entries-said file [] y n v at l d e = absurd (silent e)
 entries-said file (b ∷ s) y n v at l d e = elim (decided (eqb b 10)) [
   | inl h ↦
       let f = rw (h, ended) at e in
-      let same : record { value = []; rest = s } ≡ l = cc in
+      let same : record { what = []; rest = s } ≡ l = cc in
       rw (← same) (at-end file y n v at b s (next-rest file at b s d) h)
   | inr h ↦
       let (m, p, g) = parts (ended s) _ (rw (h, ended) at e) in
-      let same : record { value = b ∷ m .value; rest = m .rest } ≡ l = cc in
-      let ih : (y n v : ℕ) → saidValue file (entriesFrom y n v (at + 1) s) ≡ found (m .rest) (headed (readOn y n v) (readOn (back y) 0 0) (entries (m .value))) = λ y n v. entries-said file s y n v (at + 1) m (next-rest file at b s d) p in
+      let same : record { what = b ∷ m .what; rest = m .rest } ≡ l = cc in
+      let ih : (y n v : ℕ) → saidValue file (entriesFrom y n v (at + 1) s) ≡ found (m .rest) (headed (readOn y n v) (readOn (back y) 0 0) (entries (m .what))) = λ y n v. entries-said file s y n v (at + 1) m (next-rest file at b s d) p in
       rw (← same) (elim (decided (eqb b 44)) [
         | inl c ↦ at-comma file y n v at b s m h c (ih (back y) 0 0)
         | inr c ↦ inside file y n v at b s m h c ih

@@ -10,10 +10,10 @@ use lib.Dec.{eqb, leb, ltb}
 use lib.ListN.{length, take, getD}
 use lib.Seq.{getD-take}
 use Rattle.theory.specs.Automaton.{_of_gives_}
-use Rattle.paper.specs.Judged.{Judged, fault, says, _>>=_, _>>_, _unless_}
+use Rattle.paper.specs.Checked.{Checked, fault, says, _>>=_, _>>_, _unless_}
 use Rattle.paper.specs.Fields.{all, each, entries, number, isNumber}
 use Rattle.paper.specs.Certificate.{Kind, row, Arities, Merge}
-use Rattle.paper.specs.Tables.{numbers as paperNumbers, numbersOf, within, one, list, arityList, ascending as paperAscending, finalList, lastOf, transitionOf, fromNumbers, transition, numbered as paperNumbered, classList}
+use Rattle.paper.specs.Tables.{numbers as paperNumbers, numbersOf, within, singleNumber, numberList, arityList, ascending as paperAscending, finalList, lastOf, transitionOf, fromNumbers, transition, numbered as paperNumbered, classList}
 use Rattle.paper.proofs.Smallest.{decided}
 use Rattle.fields.specs.Listed.{anyOver, beyond, above, ascending}
 use Rattle.fields.specs.Lines.{finalCheck, fewCheck}
@@ -26,15 +26,15 @@ use Rattle.fields.proofs.MergeLaws.{merge-count, merge-ok, merge-not}
 use Rattle.fields.proofs.Bridge.{values, valuesOf, inRange, ranged, checking, values-numbers, values-numbersOf, values-some}
 
 -- Steps that come to the same.
-pub bind-same : {X Y : Type 0} (j : Judged X) (f g : X → Judged Y) → ((x : X) → f x ≡ g x) → (j >>= f) ≡ (j >>= g)
+pub bind-same : {X Y : Type 0} (j : Checked X) (f g : X → Checked Y) → ((x : X) → f x ≡ g x) → (j >>= f) ≡ (j >>= g)
 bind-same j f g h = λ i. j >>= (λ x. h x i)
 
-pub bind-said : {X Y : Type 0} (j : Judged X) (f g : X → Judged Y) → ((x : X) → j ≡ says x → f x ≡ g x) → (j >>= f) ≡ (j >>= g)
+pub bind-said : {X Y : Type 0} (j : Checked X) (f g : X → Checked Y) → ((x : X) → j ≡ says x → f x ≡ g x) → (j >>= f) ≡ (j >>= g)
 unfolding _>>=_
 bind-said (fault n) f g h = refl
 bind-said (says x) f g h = h x refl
 
-pub bind-bind : {X Y Z : Type 0} (j : Judged X) (f : X → Judged Y) (g : Y → Judged Z) → ((j >>= f) >>= g) ≡ (j >>= (λ x. f x >>= g))
+pub bind-bind : {X Y Z : Type 0} (j : Checked X) (f : X → Checked Y) (g : Y → Checked Z) → ((j >>= f) >>= g) ≡ (j >>= (λ x. f x >>= g))
 unfolding _>>=_
 bind-bind (fault n) f g = refl
 bind-bind (says x) f g = refl
@@ -50,12 +50,12 @@ not-or : (a b : Bool) → not (a || b) ≡ (not a && not b)
 not-or true b = refl
 not-or false b = refl
 
-none-over : (test : ℕ → Bool) (m : ℕ) → ((n : ℕ) → test n ≡ leb n m) → (ns : List ℕ) → all test ns ≡ not (anyOver m ns)
+none-over : (test : ℕ → Bool) (m : ℕ) → ((n : ℕ) → test n ≡ leb n m) → (ns : List ℕ) → all ns test ≡ not (anyOver m ns)
 unfolding all anyOver
 none-over test m h [] = refl
 none-over test m h (n ∷ ns) = sym (not-or (ltb m n) (anyOver m ns) ∙ rw (flip m n, ← h n, ← none-over test m h ns))
 
-pub none-beyond : (test : ℕ → Bool) (m : ℕ) → ((n : ℕ) → test n ≡ leb n m) → (ns : List ℕ) → all test ns ≡ not (beyond m m ns)
+pub none-beyond : (test : ℕ → Bool) (m : ℕ) → ((n : ℕ) → test n ≡ leb n m) → (ns : List ℕ) → all ns test ≡ not (beyond m m ns)
 unfolding beyond all
 none-beyond test m h [] = refl
 none-beyond test m h (n ∷ ns) = none-over test m h (n ∷ ns) ∙ (unfold anyOver in refl)
@@ -64,8 +64,8 @@ within-zero : (K : Kind) (n : ℕ) → row K .least ≡ 0 → within K n ≡ leb
 unfolding within
 within-zero K n h = rw (h, le-leb 0 n (omega arith))
 
-pub list-judge : (K : Kind) (value : List ℕ) → row K .least ≡ 0 → list K value ≡ ranged 0 (row K .greatest) (row K .greatest) (row K .empty) value
-unfolding list ranged inRange
+pub list-judge : (K : Kind) (value : List ℕ) → row K .least ≡ 0 → numberList K value ≡ ranged 0 (row K .greatest) (row K .greatest) (row K .empty) value
+unfolding numberList ranged inRange
 list-judge K value h =
     rw (← values-numbersOf (row K .empty) value)
     (bind-same (valuesOf 0 (row K .empty) value) _ _ (λ ns. ap (λ b. 5 unless b >> says ns) (none-beyond (within K) (row K .greatest) (λ n. within-zero K n h) ns)))
@@ -133,11 +133,11 @@ unfolding ascending paperAscending
 same-ascending [] = refl
 same-ascending (v ∷ ns) = rw (le-leb 0 v (omega arith)) (same-above v ns)
 
-below-all : (n : ℕ) (K : Kind) → row K .least ≡ 0 → n ≤ suc (row K .greatest) → (ns : List ℕ) → all (λ q. ltb q n) ns ≡ true → all (within K) ns ≡ true
+below-all : (n : ℕ) (K : Kind) → row K .least ≡ 0 → n ≤ suc (row K .greatest) → (ns : List ℕ) → all ns (λ q. ltb q n) ≡ true → all ns (within K) ≡ true
 unfolding all
 below-all n K z h [] e = refl
 below-all n K z h (q ∷ qs) e =
-    let (a, b) = and-eq-true-iff (ltb q n) (all (λ q. ltb q n) qs) .0 e in
+    let (a, b) = and-eq-true-iff (ltb q n) (all qs (λ q. ltb q n)) .0 e in
     rw (within-zero K q z, le-leb q (row K .greatest) (omega (arith, ltb-true q n a)), below-all n K z h qs b)
 
 below-flip : (n q : ℕ) → 1 ≤ n → ltb q n ≡ leb q (n - 1)
@@ -165,21 +165,32 @@ final-test ns t a false false e h k = absurd (false≢true (sym e ∙ k))
 
 pub final-judge : (K : Kind) (n : ℕ) (value : List ℕ) → row K .least ≡ 0 → row K .empty ≡ true → 1 ≤ n → n ≤ suc (row K .greatest)
     → (ranged 0 (n - 1) (n - 1) true value >>= checking finalCheck) ≡ finalList K n value
-unfolding finalList list ranged inRange
+unfolding finalList numberList ranged inRange
 final-judge K n value z e l g =
     rw (e, ← values-numbersOf true value)
     (bind-bind (valuesOf 0 true value) (inRange (n - 1) (n - 1)) (checking finalCheck)
-    ∙ bind-same (valuesOf 0 true value) _ _ (λ ns. final-test ns (all (λ q. ltb q n)) (all (within K) ns) (all (λ q. ltb q n) ns) (beyond (n - 1) (n - 1) ns) refl (below-all n K z g ns) (none-beyond (λ q. ltb q n) (n - 1) (λ q. below-flip n q l) ns))
-    ∙ sym (bind-bind (valuesOf 0 true value) (λ ns. 5 unless all (within K) ns >> says ns) (λ qs. 5 unless all (λ q. ltb q n) qs >> (7 unless paperAscending 0 qs >> says qs))))
+    ∙ bind-same (valuesOf 0 true value) _ _ (λ ns. final-test ns (λ qs. all qs (λ q. ltb q n)) (all ns (within K)) (all ns (λ q. ltb q n)) (beyond (n - 1) (n - 1) ns) refl (below-all n K z g ns) (none-beyond (λ q. ltb q n) (n - 1) (λ q. below-flip n q l) ns))
+    ∙ sym (bind-bind (valuesOf 0 true value) (λ ns. 5 unless all ns (within K) >> says ns) (λ qs. 5 unless all qs (λ q. ltb q n) >> (7 unless paperAscending 0 qs >> says qs))))
 
 -- A line of one number.
-unfoldable pub oneOf : Kind → List ℕ → Judged ℕ
-oneOf K ns = 4 unless eqb (length ns) 1 >> (5 unless all (within K) ns >> says (getD ns 0 0))
+unfoldable pub oneOf : Kind → List ℕ → Checked ℕ
+oneOf K ns = 4 unless eqb (length ns) 1 >> (5 unless all ns (within K) >> says (getD ns 0 0))
 
-pub one-judge : (K : Kind) (value : List ℕ) → row K .empty ≡ false → (valuesOf 0 true value >>= oneOf K) ≡ one K value
-unfolding one oneOf
-one-judge K [] e = rw e (unfold valuesOf numbersOf paperNumbers each entries number isNumber _unless_ _>>_ _>>=_ in refl)
-one-judge K (b ∷ bs) e = rw (e, values-numbersOf true (b ∷ bs)) (unfold numbersOf in refl)
+-- no value is not one number, whether the row allows it or not
+none-judge : (e : Bool) (K : Kind) → (valuesOf 0 true [] >>= oneOf K) ≡ (numbersOf e [] >>= oneOf K)
+unfolding valuesOf numbersOf paperNumbers each entries number isNumber oneOf _unless_ _>>_ _>>=_
+none-judge true K = refl
+none-judge false K = refl
+
+some-judge : (e : Bool) (b : ℕ) (bs : List ℕ) → valuesOf 0 true (b ∷ bs) ≡ numbersOf e (b ∷ bs)
+unfolding numbersOf
+some-judge true b bs = values-numbersOf true (b ∷ bs)
+some-judge false b bs = values-numbersOf true (b ∷ bs)
+
+pub one-judge : (K : Kind) (value : List ℕ) → (valuesOf 0 true value >>= oneOf K) ≡ singleNumber K value
+unfolding singleNumber oneOf
+one-judge K [] = none-judge (row K .empty) K
+one-judge K (b ∷ bs) = ap (λ (j : Checked (List ℕ)). j >>= oneOf K) (some-judge (row K .empty) b bs)
 
 -- A transition's line.
 shape : (arities : List ℕ) (f : ℕ) (qs : List ℕ) → length qs ≡ getD arities f 0 + 1 → getD arities f 0 ≤ 3 → moved arities (transOf (f ∷ qs)) ≡ (f of dropLast qs gives lastOf qs)
@@ -192,7 +203,7 @@ shape arities f (q ∷ r ∷ s ∷ t ∷ []) e h = let p : getD arities f 0 ≡ 
 shape arities f (q ∷ r ∷ s ∷ t ∷ u ∷ qs) e h = absurd (omega arith)
 
 module _ (arities : List ℕ) (S n : ℕ) (few : length (take S arities) ≡ S) (low : (k : ℕ) → getD arities k 0 ≤ 3) (one-symbol : 1 ≤ S) (one-state : 1 ≤ n) where
-  trans-range : (f : ℕ) (qs : List ℕ) → not (beyond (S - 1) (n - 1) (f ∷ qs)) ≡ (ltb f (length (take S arities)) && all (λ q. ltb q n) qs)
+  trans-range : (f : ℕ) (qs : List ℕ) → not (beyond (S - 1) (n - 1) (f ∷ qs)) ≡ (ltb f (length (take S arities)) && all qs (λ q. ltb q n))
   unfolding beyond
   trans-range f qs = not-or (ltb (S - 1) f) (anyOver (n - 1) qs) ∙ rw (few, flip (S - 1) f, ← below-flip S f one-symbol, ← none-over (λ q. ltb q n) (n - 1) (λ q. below-flip n q one-state) qs)
 
@@ -213,7 +224,7 @@ module _ (arities : List ℕ) (S n : ℕ) (few : length (take S arities) ≡ S) 
 
   trans-line : (ns : List ℕ) → (ns ≡ [] → ⊥) → ((inRange (S - 1) (n - 1) ns >>= checking (transCheck arities)) >>= (λ ns. says (moved arities (transOf ns)))) ≡ fromNumbers (take S arities) n ns
   trans-line [] h = absurd (h refl)
-  trans-line (f ∷ qs) h = unfold fromNumbers transitionOf inRange in (rw (trans-range f qs) (go (ltb f (length (take S arities))) (all (λ q. ltb q n) qs) refl))
+  trans-line (f ∷ qs) h = unfold fromNumbers transitionOf inRange in (rw (trans-range f qs) (go (ltb f (length (take S arities))) (all qs (λ q. ltb q n)) refl))
     where
       go : (a b : Bool) → ltb f (length (take S arities)) ≡ a
           → (((5 unless (a && b) >> says (f ∷ qs)) >>= checking (transCheck arities)) >>= (λ ns. says (moved arities (transOf ns)))) ≡ (5 unless (a && b) >> (6 unless eqb (length qs) (getD (take S arities) f 0 + 1) >> says (f of dropLast qs gives lastOf qs)))
@@ -224,7 +235,7 @@ module _ (arities : List ℕ) (S n : ℕ) (few : length (take S arities) ≡ S) 
   pub trans-judge : (value : List ℕ) → ((ranged 0 (S - 1) (n - 1) false value >>= checking (transCheck arities)) >>= (λ ns. says (moved arities (transOf ns)))) ≡ transition (take S arities) n value
   unfolding transition ranged valuesOf
   trans-judge value =
-      ap (λ (j : Judged (List ℕ)). j >>= (λ ns. says (moved arities (transOf ns)))) (bind-bind (values 0 value) (inRange (S - 1) (n - 1)) (checking (transCheck arities)))
+      ap (λ (j : Checked (List ℕ)). j >>= (λ ns. says (moved arities (transOf ns)))) (bind-bind (values 0 value) (inRange (S - 1) (n - 1)) (checking (transCheck arities)))
       ∙ bind-bind (values 0 value) (λ ns. inRange (S - 1) (n - 1) ns >>= checking (transCheck arities)) (λ ns. says (moved arities (transOf ns)))
       ∙ bind-said (values 0 value) _ _ (λ ns e. trans-line ns (λ z. values-some 0 value (e ∙ ap says z)))
-      ∙ ap (λ (j : Judged (List ℕ)). j >>= fromNumbers (take S arities) n) (values-numbers value)
+      ∙ ap (λ (j : Checked (List ℕ)). j >>= fromNumbers (take S arities) n) (values-numbers value)

@@ -15,3 +15,4 @@ pub mod Entries
 pub mod Bridge
 pub mod Judges
 pub mod SaidLaws
+pub mod Fixed

@@ -9,13 +9,13 @@ use borrow.Author.Tests.{ne-eqb, eqb-true, ltb-true}
 use lib.Dec.{eqb, leb, ltb}
 use lib.ListN.{length, drop, take, getD, replicate}
 use lib.Seq.{length-take-le}
-use Rattle.paper.specs.Judged.{Judged, fault, says, _>>=_, _>>_, _unless_}
+use Rattle.paper.specs.Checked.{Checked, fault, says, _>>=_, _>>_, _unless_}
 use Rattle.paper.specs.Lines.{Said}
 use Rattle.paper.specs.Fields.{all}
 use Rattle.paper.specs.Certificate.{Kind, row, Budget}
-use Rattle.paper.specs.Tables.{within, one, arityList, finalList, transition, classList}
+use Rattle.paper.specs.Tables.{within, singleNumber, arityList, finalList, transition, classList}
 use Rattle.paper.proofs.Smallest.{decided}
-use Rattle.paper.proofs.Judged.{silent}
+use Rattle.paper.proofs.Checked.{silent}
 use Rattle.fields.specs.declared.rows.Row.{Row}
 use Rattle.fields.specs.declared.cursor.Field.{Field}
 use Rattle.fields.specs.declared.lists.Items.{Items}
@@ -52,14 +52,14 @@ table-row (k ∷ ks) (suc i) z h = table-row ks i z (omega arith)
 
 -- One number.
 module _ (file : List ℕ) (K : Kind) where
-  one-in : (v at : ℕ) → saidField file (inRow (codeRow (row K)) v at) ≡ found (drop at file) (5 unless all (within K) (v ∷ []) >> says v)
+  one-in : (v at : ℕ) → saidField file (inRow (codeRow (row K)) v at) ≡ found (drop at file) (5 unless all (v ∷ []) (within K) >> says v)
   unfolding inRow codeRow saidField found all within _unless_ _>>_ _>>=_
   one-in v at = elim (decided (leb (row K .least) v && leb v (row K .greatest))) [
     | inl p ↦ rw (p, inRow)
     | inr p ↦ rw (p, inRow)
   ]
 
-  one-value : (x : Value) (behind : List ℕ) (j : Judged (List ℕ)) → saidValue file x ≡ found behind j → saidField file (oneNumber (codeRow (row K)) x) ≡ found behind (j >>= oneOf K)
+  one-value : (x : Value) (behind : List ℕ) (j : Checked (List ℕ)) → saidValue file x ≡ found behind j → saidField file (oneNumber (codeRow (row K)) x) ≡ found behind (j >>= oneOf K)
   unfolding saidValue found oneNumber saidField oneOf _unless_ _>>_ _>>=_
   one-value notNumbers behind (fault n) e = let same : _≡_ {A = ℕ} 4 n = cc in ap fault same
   one-value notNumbers behind (says ns) e = absurd (silent e)
@@ -74,22 +74,22 @@ module _ (file : List ℕ) (K : Kind) where
       let same : _≡_ {A = Said (List ℕ)} (record { what = v ∷ (w ∷ ns); rest = drop at file }) (record { what = ms; rest = behind }) = cc in
       rw (← ap (λ (s : Said (List ℕ)). s .what) same) (rw (ne-eqb (suc (suc (length ns))) 1 (λ z. omega arith)))
 
-  one-said : (key : List ℕ) (at : ℕ) → row K .empty ≡ false → saidField file (numberLine key (codeRow (row K)) file at) ≡ keyed key (one K) (drop at file)
-  one-said key at e = go (openAt key file at) refl
+  one-said : (key : List ℕ) (at : ℕ) → saidField file (numberLine key (codeRow (row K)) file at) ≡ keyed key (singleNumber K) (drop at file)
+  one-said key at = go (openAt key file at) refl
     where
-      go : (o : Opened) → openAt key file at ≡ o → saidField file (numberIn (codeRow (row K)) file o) ≡ keyed key (one K) (drop at file)
-      go Missing p = unfold numberIn saidField in (sym (keyed-missing key (one K) file at p))
+      go : (o : Opened) → openAt key file at ≡ o → saidField file (numberIn (codeRow (row K)) file o) ≡ keyed key (singleNumber K) (drop at file)
+      go Missing p = unfold numberIn saidField in (sym (keyed-missing key (singleNumber K) file at p))
       go (At c) p =
-          let t = keyed-at key (one K) file at c p in
-          unfold numberIn in (one-value _ (t .line .rest) _ (value-found file (drop (c .at) file) 0 (c .at) (t .line) refl refl (t .ends)) ∙ ap (found (t .line .rest)) (one-judge K (t .line .value) e) ∙ sym (t .is))
+          let t = keyed-at key (singleNumber K) file at c p in
+          unfold numberIn in (one-value _ (t .line .rest) _ (value-found file (drop (c .at) file) 0 (c .at) (t .line) refl refl (t .ends)) ∙ ap (found (t .line .rest)) (one-judge K (t .line .what)) ∙ sym (t .is))
 
-pub one-told : (file key : List ℕ) (kind at : ℕ) (r : Field) → row (kindAt kind) .empty ≡ false → r ≡ numberLine key (rowAt kind) file at
-    → saidField file r ≡ keyed key (one (kindAt kind)) (drop at file)
-one-told file key kind at r e h = ap (saidField file) h ∙ one-said file (kindAt kind) key at e
+pub one-told : (file key : List ℕ) (kind at : ℕ) (r : Field) → r ≡ numberLine key (rowAt kind) file at
+    → saidField file r ≡ keyed key (singleNumber (kindAt kind)) (drop at file)
+one-told file key kind at r h = ap (saidField file) h ∙ one-said file (kindAt kind) key at
 
-pub one-told-by : (file key : List ℕ) (kind at : ℕ) (r : Field) (w : Row) → row (kindAt kind) .empty ≡ false → w ≡ rowAt kind → r ≡ numberLine key w file at
-    → saidField file r ≡ keyed key (one (kindAt kind)) (drop at file)
-one-told-by file key kind at r w e p h = one-told file key kind at r e (rw p at h)
+pub one-told-by : (file key : List ℕ) (kind at : ℕ) (r : Field) (w : Row) → w ≡ rowAt kind → r ≡ numberLine key w file at
+    → saidField file r ≡ keyed key (singleNumber (kindAt kind)) (drop at file)
+one-told-by file key kind at r w p h = one-told file key kind at r (rw p at h)
 
 -- Lists that fit in the code's array.
 items-said : (file : List ℕ) (l : Line) → ((ns : List ℕ) (at : ℕ) → l ≡ good ns at → length ns ≤ 64) → saidItems file (itemsOf l) ≡ saidLine file l
@@ -127,10 +127,17 @@ merge-zero n ns e = elim (decided (eqb (length ns) n)) [
 module _ (file key : List ℕ) (at : ℕ) (r : Items) (m : ℕ) (empty : Bool) (k : List ℕ → ℕ) (few : (ns : List ℕ) → k ns ≡ 0 → ((i : ℕ) → getD ns i 0 ≤ m) → length ns ≤ 64) where
   whole-line : (l : Line) → ((ns : List ℕ) (next : ℕ) → l ≡ good ns next → (length ns ≤ 64) × ((i : ℕ) → getD ns i 0 ≤ m) × (next ≤ length file)) → WholeListed file m (itemsOf l .items) (itemsOf l .answer)
   unfolding WholeListed itemsOf refusedItems
-  whole-line (bad q) h = tt
+  whole-line (bad q) h = refl
   whole-line (good ns next) h =
       let (a, b, c) = h ns next refl in
-      (rw (take-items ns (laid ns (replicate 64 0)) (length ns) refl a refl) (laid-padded 64 ns), λ i. rw (laid-padded 64 ns) (padded-low m 64 ns b i), a, c)
+      let t = take-items ns (laid ns (replicate 64 0)) (length ns) refl a refl in
+      record {
+        behind = rw t (laid-padded 64 ns);
+        low = λ i. rw (laid-padded 64 ns) (padded-low m 64 ns b i);
+        few = a;
+        order = ap ascending (sym t);
+        placed = c;
+      }
 
   line-facts : (ns : List ℕ) (next : ℕ) → checked k (listLine key m m empty file at) ≡ good ns next → (length ns ≤ 64) × ((i : ℕ) → getD ns i 0 ≤ m) × (next ≤ length file)
   line-facts ns next g =
@@ -138,7 +145,7 @@ module _ (file key : List ℕ) (at : ℕ) (r : Items) (m : ℕ) (empty : Bool) (
       let c = tell-list key m empty file at ns next a in
       (few ns b c, c, place-within 0 key m m empty file at ns next a)
 
-  listing : (judge : List ℕ → Judged (List ℕ)) → ((value : List ℕ) → (ranged 0 m m empty value >>= checking k) ≡ judge value)
+  listing : (judge : List ℕ → Checked (List ℕ)) → ((value : List ℕ) → (ranged 0 m m empty value >>= checking k) ≡ judge value)
       → r ≡ itemsOf (checked k (listLine key m m empty file at)) → Listing file m (keyed key judge (drop at file)) r
   listing judge same e =
       record {
@@ -151,12 +158,12 @@ module _ (file key : List ℕ) (at : ℕ) (r : Items) (m : ℕ) (empty : Bool) (
       }
 
 -- a larger bound
-pub looser : (file : List ℕ) (m n : ℕ) (j : Judged (Said (List ℕ))) (r : Items) → m ≤ n → Listing file m j r → Listing file n j r
+pub looser : (file : List ℕ) (m n : ℕ) (j : Checked (Said (List ℕ))) (r : Items) → m ≤ n → Listing file m j r → Listing file n j r
 looser file m n j r h l = record { said = l .said; whole = go (r .items) (r .answer) (l .whole) }
   where
     go : (items : List ℕ) (a : Listed) → WholeListed file m items a → WholeListed file n items a
-    go items (Got c b d) w = unfold WholeListed in (w .0, λ k. omega (arith, w .1 k), w .2, w .3)
-    go items (NotListed q) w = unfold WholeListed in tt
+    go items (Got c b d) w = unfold WholeListed in (record { behind = w .behind; low = λ k. omega (arith, w .low k); few = w .few; order = w .order; placed = w .placed })
+    go items (NotListed q) w = unfold WholeListed in w
 
 module _ (file key : List ℕ) (at : ℕ) (r : Items) where
   -- the limits come from the table
@@ -226,6 +233,6 @@ trans-told file key arities at s m r few low e = (told, rw e (whole-arrow file a
         let q : m + 1 - 1 ≡ m = omega arith in
         ap (saidArrow file arities) e
         ∙ arrow-said file arities _
-        ∙ ap (λ (j : Judged (Said (List ℕ))). j >>= onward (λ ns. says (moved arities (transOf ns)))) (checked-said file key 0 s m false (transCheck arities) at (omega arith))
+        ∙ ap (λ (j : Checked (Said (List ℕ))). j >>= onward (λ ns. says (moved arities (transOf ns)))) (checked-said file key 0 s m false (transCheck arities) at (omega arith))
         ∙ judge-more key _ (λ ns. says (moved arities (transOf ns))) (drop at file)
         ∙ keyed-same key _ _ (λ value. rw (p, q) at (trans-judge arities (s + 1) (m + 1) (length-take-le (s + 1) arities few) low (omega arith) (omega arith) value)) (drop at file)

@@ -21,6 +21,12 @@ use Rattle.fields.specs.declared.lists.Items.{Items}
 use Rattle.fields.proofs.LinesLaws.{GotLine}
 use Rattle.fields.proofs.TellLaws.{within-opened}
 
+pub padded-length : (n : ℕ) (xs : List ℕ) → length (padded n xs) ≡ n
+unfolding padded
+padded-length zero xs = refl
+padded-length (suc n) [] = ap suc (padded-length n [])
+padded-length (suc n) (x ∷ xs) = ap suc (padded-length n xs)
+
 pub padded-none : (n : ℕ) → padded n [] ≡ replicate n 0
 unfolding padded
 padded-none zero = refl

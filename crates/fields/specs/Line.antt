@@ -5,8 +5,7 @@ use mathlib.Core.List.{List, [], _∷_}
 use mathlib.Core.Bool.{Bool, true, false, _&&_}
 use lib.Dec.{eqb, leb}
 use lib.ListN.{drop, getD}
-use Rattle.paper.specs.Certificate.{Kind, row, Budget, Arities, States, Final, Trans, BadStates, BadFinal, BadTrans, Rules, Merge}
-use Rattle.paper.specs.Certificate.{Row as PaperRow}
+use Rattle.paper.specs.Certificate.{Kind, row, Budget, Arities, States, Final, Trans, BadStates, BadFinal, BadTrans, Rules, Merge, Row as PaperRow}
 use Rattle.fields.specs.declared.rows.Row.{Row}
 use Rattle.fields.specs.declared.cursor.Opened.{Opened}
 use Rattle.fields.specs.declared.cursor.Opened.the-variants.{At, Missing}

@@ -4,7 +4,7 @@ use Prim.Native.Nat.{ℕ, zero, suc, _+_, _*_, _-_, _<_}
 use mathlib.Core.List.{List, [], _∷_}
 use mathlib.Core.Bool.{true, false, _&&_}
 use lib.Dec.{eqb, leb}
-use Rattle.theory.specs.Preorder.{Token, function, argument}
+use Rattle.theory.specs.Preorder.{Token, symbol, variable}
 use Rattle.fields.specs.Number.{isDigit, full, numberFrom}
 use Rattle.fields.specs.declared.cursor.Field.{Field}
 use Rattle.fields.specs.declared.cursor.Field.the-variants.{Read, Refused}
@@ -28,8 +28,8 @@ code (suc (suc y)) v = elim (leb v 3) [ true ↦ v | false ↦ v + 100000000 ]
 
 -- The number that stands for a token while a line is read.
 unfoldable pub codeOf : Token → ℕ
-codeOf (function f) = code 1 f
-codeOf (argument x) = code 2 x
+codeOf (symbol f) = code 1 f
+codeOf (variable x) = code 2 x
 
 -- the kind at the start of the next entry
 abbrev pub back : ℕ → ℕ

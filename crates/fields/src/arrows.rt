@@ -1,10 +1,9 @@
 // The lines of transitions.
 ghost use mathlib.Core.Path.{_≡_};
 ghost use Prim.Native.Nat.{ℕ, _+_, _-_, _≤_, _<_};
-ghost use lib.ListN.{length, drop, getD, take};
+ghost use lib.ListN.{length, getD};
 ghost use mathlib.Core.Bool.{false};
-ghost use Rattle.paper.specs.Tables.{transition};
-ghost use Rattle.fields.specs.Said.{keyed, saidArrow, WholeArrow};
+ghost use Rattle.fields.specs.Said.{ArrowLine};
 ghost use Rattle.fields.specs.Trans.{argIn};
 use crate::cursor::Cursor;
 use crate::lists::Listed;
@@ -51,7 +50,7 @@ impl Cursor {
         requires { ⌜ (symbols < 64) × (states < 64) ⌝ }
         requires { ⌜ ((k : ℕ) → getD (now arities) k 0 ≤ 3) ⌝ }
         requires { ⌜ symbols < length (now arities) ⌝ }
-        ensures { λ r. ⌜ (saidArrow (now (file .entry)) (now (arities .entry)) r ≡ keyed (now (key .entry)) (transition (take (symbols + 1) (now (arities .entry))) (states + 1)) (drop (self .at) (now (file .entry)))) × WholeArrow (now (file .entry)) (now (arities .entry)) r ⌝ }
+        ensures { λ r. ⌜ ArrowLine (now (file .entry)) (now (key .entry)) (now (arities .entry)) (symbols + 1) (states + 1) (self .at) r ⌝ }
     {
         let it = self.list_line(file, key, 0, symbols, states, false);
         let answer = it.answer;

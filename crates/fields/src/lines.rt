@@ -3,10 +3,8 @@ ghost use mathlib.Core.Path.{_≡_};
 ghost use Prim.Native.Nat.{_+_, _-_, _≤_, _<_, min};
 ghost use lib.ListN.{drop, take};
 ghost use mathlib.Core.Bool.{true, false};
-ghost use Rattle.paper.specs.Certificate.{row};
-ghost use Rattle.paper.specs.Tables.{one, arityList, finalList, classList};
-ghost use Rattle.fields.specs.Said.{keyed, saidField, PlacedField, Listing, FinalKind};
-ghost use Rattle.fields.specs.Value.{coded};
+ghost use Rattle.paper.specs.Tables.{arityList, finalList, classList};
+ghost use Rattle.fields.specs.Said.{keyed, FieldLine, Listing, FinalKind};
 ghost use Rattle.fields.specs.Line.{kindAt};
 ghost use Rattle.fields.specs.Lines.{itemsOf, entryLine, fewCheck, checked};
 ghost use Rattle.fields.specs.Merge.{bump, numbered};
@@ -25,8 +23,7 @@ impl Cursor {
     // A whole line of one number in its row's range.
     pub fn number_line(self, file: &[u8], key: &[u8], kind: usize) -> Field
         requires { ⌜ kind < 10 ⌝ }
-        requires { ⌜ row (kindAt kind) .empty ≡ false ⌝ }
-        ensures { λ r. ⌜ (saidField (now (file .entry)) r ≡ keyed (now (key .entry)) (one (kindAt kind)) (drop (self .at) (now (file .entry)))) × PlacedField (now (file .entry)) r ⌝ }
+        ensures { λ r. ⌜ FieldLine (now (file .entry)) (now (key .entry)) (kindAt kind) (self .at) r ⌝ }
     {
         let Opened::At(c) = self.open(file, key) else {
             return Field::Refused(3);

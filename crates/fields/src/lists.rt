@@ -4,7 +4,6 @@ ghost use Prim.Native.Nat.{ℕ, _+_, _-_, _≤_, _<_, _^_};
 ghost use lib.ListN.{length, drop, set, getD};
 ghost use lib.Dec.{eqb, ltb};
 ghost use mathlib.Core.Bool.{_&&_, _||_, true, false};
-ghost use Rattle.paper.specs.Tables.{one};
 ghost use Rattle.fields.specs.Value.{entriesFrom, valueOf};
 ghost use Rattle.fields.specs.Lines.{itemsOf, entryLine};
 ghost use Rattle.fields.specs.Listed.{refusedItems, seenNone, seenWith, done, finish, listOf};

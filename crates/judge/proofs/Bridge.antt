@@ -8,14 +8,13 @@ use native.Mathlib.Omega.{arith}
 use lib.ListN.{length, getD, take, List·getD-eq-default}
 use lib.Dec.{eqb}
 use lib.Seq.{getD-take}
-use Rattle.theory.specs.Lists.{countFrom, some}
-use Rattle.theory.specs.Automaton.{_of_gives_}
-use Rattle.theory.specs.Merging.{classOf, mergeTransition, merged}
+use Rattle.theory.specs.Lists.{countFrom, any}
+use Rattle.theory.specs.Automaton.{_of_gives_, classOf, mergeTransition, merged}
 use Rattle.theory.specs.Critical.{Share}
 use Rattle.theory.proofs.Grow.{share-more}
 use Rattle.theory.proofs.Merged.{merged-in-range}
 use Rattle.paper.specs.Limits.{mostTransitions, mostStates, mostArity}
-use Rattle.paper.specs.Verdict.{sharedPair}
+use Rattle.paper.specs.Computed.{sharedPair}
 use Rattle.paper.proofs.Bounds.{classes-bound}
 use Rattle.paper.proofs.Exact.{listed-iff, in-range, final-classes}
 use Rattle.sets.specs.Sets.{mem}
@@ -123,7 +122,7 @@ module _ (t : Tables) (m : Merging) (s : Sound t m) where
   finals-merged mask e q =
       let same : map (λ r. getD (m .merge) r 0) (members (t .initial .finals) 0 (t .initial .states)) ≡ map (classOf (mergeOf t m)) (members (t .initial .finals) 0 (t .initial .states)) = map-on _ _ _ (λ r n. sym (class-inside r (omega (arith, members-sound (t .initial .finals) 0 (t .initial .states) n .1)))) in
       let (to, from) = listed-iff q (mergedOf t m .final) in
-      (λ h. to (sym (ap (λ l. some l (eqb q)) same) ∙ (sym (ap (λ (f : ℕ → Bool). f q) e) ∙ h)), λ n. ap (λ (f : ℕ → Bool). f q) e ∙ (ap (λ l. some l (eqb q)) same ∙ from n))
+      (λ h. to (sym (ap (λ l. any l (eqb q)) same) ∙ (sym (ap (λ (f : ℕ → Bool). f q) e) ∙ h)), λ n. ap (λ (f : ℕ → Bool). f q) e ∙ (ap (λ l. any l (eqb q)) same ∙ from n))
 
   -- The mask of B's final states has them.
   pub finals-bad : (p : ℕ) → p < badOf t .states → (mem (t .bad .finals) p ≡ true) ↔ List·Memᴰ p (badOf t .final)

@@ -3,3 +3,4 @@ pub mod Seek
 pub mod Pairing
 pub mod Bridge
 pub mod Whole
+pub mod Fixed

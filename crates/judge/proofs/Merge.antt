@@ -10,7 +10,7 @@ use borrow.Author.Tests.{eq-eqb, ne-eqb}
 use lib.Dec.{eqb}
 use lib.ListN.{length, getD, set, length-set, replicate, length-replicate}
 use lib.Seq.{getD-set-same, getD-set-other}
-use Rattle.theory.specs.Lists.{some}
+use Rattle.theory.specs.Lists.{any}
 use Rattle.sets.specs.Sets.{Set, mem, plus}
 use Rattle.sets.proofs.Laws.{mem-zero}
 use Rattle.tables.specs.Held.{members}
@@ -55,35 +55,35 @@ members-more mask n (suc k) =
     go true xs ys zs e = ap (λ l. n ∷ l) e
     go false xs ys zs e = e
 
-some-append : {Y : Type 0} (xs ys : List Y) (test : Y → Bool) → some (xs ++ ys) test ≡ (some xs test || some ys test)
-unfolding some
+some-append : {Y : Type 0} (xs ys : List Y) (test : Y → Bool) → any (xs ++ ys) test ≡ (any xs test || any ys test)
+unfolding any
 some-append [] ys test = refl
-some-append (x ∷ xs) ys test = ap (λ b. test x || b) (some-append xs ys test) ∙ sym (or-assoc (test x) (some xs test) (some ys test))
+some-append (x ∷ xs) ys test = ap (λ b. test x || b) (some-append xs ys test) ∙ sym (or-assoc (test x) (any xs test) (any ys test))
 
 module _ (finals : ℕ) (merge : List ℕ) where
   pub final-start : mem 0 ≡ finalClass finals merge 0
-  unfolding finalClass members some
+  unfolding finalClass members any
   final-start = mem-zero
 
   -- One more state: final, or not.
-  more : (n q : ℕ) → finalClass finals merge (suc n) q ≡ (finalClass finals merge n q || some (map (λ s. getD merge s 0) (members finals n 1)) (eqb q))
+  more : (n q : ℕ) → finalClass finals merge (suc n) q ≡ (finalClass finals merge n q || any (map (λ s. getD merge s 0) (members finals n 1)) (eqb q))
   unfolding finalClass
   more n q =
       let parts : members finals 0 (suc n) ≡ members finals 0 n ++ members finals n 1 = members-more finals 0 n ∙ ap (λ k. members finals 0 n ++ members finals k 1) (omega arith) in
-      ap (λ l. some (map (λ s. getD merge s 0) l) (eqb q)) parts
-      ∙ (ap (λ l. some l (eqb q)) (map-append (λ s. getD merge s 0) (members finals 0 n) (members finals n 1)) ∙ some-append (map (λ s. getD merge s 0) (members finals 0 n)) _ (eqb q))
+      ap (λ l. any (map (λ s. getD merge s 0) l) (eqb q)) parts
+      ∙ (ap (λ l. any l (eqb q)) (map-append (λ s. getD merge s 0) (members finals 0 n) (members finals n 1)) ∙ some-append (map (λ s. getD merge s 0) (members finals 0 n)) _ (eqb q))
 
   module _ (n : ℕ) where
     pub final-on : (classes classes′ : ℕ) → mem classes ≡ finalClass finals merge n → mem finals n ≡ true → mem classes′ ≡ plus (mem classes) (getD merge n 0) → mem classes′ ≡ finalClass finals merge (n + 1)
-    unfolding members some
+    unfolding members any
     final-on classes classes′ inv e said = said ∙ fun-ext (λ q. ap₂ (λ (a b : Bool). a || b) (ap (λ (s : Set). s q) inv) (eqb-sym (getD merge n 0) q ∙ sym (or-false (eqb q (getD merge n 0)))) ∙ (sym (more n q ∙ last q) ∙ ap (λ k. finalClass finals merge k q) (omega arith)))
       where
-        last : (q : ℕ) → (finalClass finals merge n q || some (map (λ s. getD merge s 0) (members finals n 1)) (eqb q)) ≡ (finalClass finals merge n q || (eqb q (getD merge n 0) || false))
+        last : (q : ℕ) → (finalClass finals merge n q || any (map (λ s. getD merge s 0) (members finals n 1)) (eqb q)) ≡ (finalClass finals merge n q || (eqb q (getD merge n 0) || false))
         last q = rw (e, members)
 
     pub final-off : (classes : ℕ) → mem classes ≡ finalClass finals merge n → mem finals n ≡ false → mem classes ≡ finalClass finals merge (n + 1)
-    unfolding members some
+    unfolding members any
     final-off classes inv e = inv ∙ fun-ext (λ q. sym (or-false (finalClass finals merge n q)) ∙ (sym (more n q ∙ last q) ∙ ap (λ k. finalClass finals merge k q) (omega arith)))
       where
-        last : (q : ℕ) → (finalClass finals merge n q || some (map (λ s. getD merge s 0) (members finals n 1)) (eqb q)) ≡ (finalClass finals merge n q || false)
+        last : (q : ℕ) → (finalClass finals merge n q || any (map (λ s. getD merge s 0) (members finals n 1)) (eqb q)) ≡ (finalClass finals merge n q || false)
         last q = rw (e, members)

@@ -10,7 +10,7 @@ use native.Mathlib.Decide.{decLe}
 use lib.ListN.{getD}
 use Rattle.theory.specs.Automaton.{Automaton, InRange}
 use Rattle.theory.specs.Critical.{Share, Suitable}
-use Rattle.paper.specs.Verdict.{sharedPair}
+use Rattle.paper.specs.Computed.{sharedPair}
 use Rattle.paper.specs.Meaning.{Smallest, FinalPair}
 use Rattle.paper.proofs.Smallest.{decided, smallest-some, smallest-none}
 use Rattle.paper.proofs.Examined.{found}
@@ -58,7 +58,7 @@ module _ (M B : Automaton) (inM : InRange M) (inB : InRange B) (finM : FinalInRa
         let s = smallest-some (λ p. mem (getD pairs q 0) p && mem bad p) 0 (B .states) (rw (f, partner) at e) in
         let (a, b) = and-eq-true-iff (mem (getD pairs q 0) p) (mem bad p) .0 (s .passes) in
         record {
-          holds = record { class = final-class q .0 f; state = final-state p (omega (arith, s .high)) .0 b; shared = marked q p .0 a };
+          itself = record { class = final-class q .0 f; state = final-state p (omega (arith, s .high)) .0 b; shared = marked q p .0 a };
           least = λ r w. s .first r (omega arith) (and-eq-true-iff _ _ .1 (marked q r .1 (w .shared), final-state r (finB r (w .state)) .1 (w .state)));
         }
     | inr f ↦ let g = rw (f, partner) at e in let z : _≡_ {A = ℕ} 0 1 = cc in absurd (omega arith)
@@ -80,4 +80,4 @@ module _ (M B : Automaton) (inM : InRange M) (inB : InRange B) (finM : FinalInRa
       go (some qp) (this u e h) =
           let (q, p) = qp in
           let s = mate-some q p e in
-          sym (pair-named M B inM inB finM finB q p (record { holds = (p, s .holds); least = λ r (o, w). elim (decLe q r) [ yes l ↦ l | no l ↦ absurd (mate-none r (h r (omega arith) (omega arith)) o w) ] }) s)
+          sym (pair-named M B inM inB finM finB q p (record { itself = (p, s .itself); least = λ r (o, w). elim (decLe q r) [ yes l ↦ l | no l ↦ absurd (mate-none r (h r (omega arith) (omega arith)) o w) ] }) s)

@@ -9,7 +9,7 @@ use lib.ListN.{getD}
 use lib.Bits.{bitAnd}
 use Rattle.sets.specs.Sets.{mem}
 use Rattle.sets.proofs.Laws.{mem-and}
-use Rattle.paper.specs.Verdict.{smallest}
+use Rattle.paper.specs.Computed.{smallest}
 use Rattle.judge.specs.Pairs.{pairOr, partner, sharedOf}
 
 -- What is left of n numbers from q on, where q is one of them.

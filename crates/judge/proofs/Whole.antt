@@ -6,13 +6,13 @@ use Prim.Native.Nat.{ℕ, _*_, _≤_}
 use native.Mathlib.Omega.{arith}
 use lib.ListN.{length-map}
 use Rattle.theory.specs.Lists.{countFrom}
-use Rattle.theory.specs.Automaton.{Automaton, InRange}
-use Rattle.theory.specs.Merging.{classes, merged}
+use Rattle.theory.specs.Automaton.{Automaton, InRange, classes, merged}
 use Rattle.theory.proofs.Count.{length-count}
 use Rattle.theory.proofs.Grow.{Contained}
 use Rattle.theory.proofs.Merged.{merged-in-range}
 use Rattle.paper.specs.Limits.{mostRules}
-use Rattle.paper.specs.Verdict.{unsuitable, cases, sharedPair, examine, judge, verdict}
+use Rattle.paper.specs.Meaning.{unsuitable}
+use Rattle.paper.specs.Computed.{cases, sharedPair, examine, judge, verdict}
 use Rattle.tables.specs.declared.Tables.{Tables}
 use Rattle.tables.specs.declared.Merging.{Merging}
 use Rattle.tables.specs.Held.{automatonOf as tableOf, aritiesOf, rulesOf, mergeOf, held}

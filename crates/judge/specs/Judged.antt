@@ -1,6 +1,5 @@
 -- The two automata that are judged.
-use Rattle.theory.specs.Automaton.{Automaton}
-use Rattle.theory.specs.Merging.{merged}
+use Rattle.theory.specs.Automaton.{Automaton, merged}
 use Rattle.tables.specs.declared.Tables.{Tables}
 use Rattle.tables.specs.declared.Merging.{Merging}
 use Rattle.tables.specs.Held.{automatonOf, aritiesOf, mergeOf}

@@ -5,7 +5,7 @@ use mathlib.Core.List.{List, map}
 use mathlib.Core.Path.{_≡_}
 use lib.Dec.{eqb}
 use lib.ListN.{length, getD}
-use Rattle.theory.specs.Lists.{some}
+use Rattle.theory.specs.Lists.{any}
 use Rattle.tables.specs.Held.{members}
 
 -- The byte at `at` of the merged table: a symbol stays, a state becomes its class.
@@ -21,4 +21,4 @@ pub record Merged (rows merge : List ℕ) (n : ℕ) (bytes : List ℕ) : Type 0 
 
 -- The class q has a final member among the first n states.
 unfoldable pub finalClass : (finals : ℕ) → (merge : List ℕ) → ℕ → ℕ → Bool
-finalClass finals merge n q = some (map (λ s. getD merge s 0) (members finals 0 n)) (eqb q)
+finalClass finals merge n q = any (map (λ s. getD merge s 0) (members finals 0 n)) (eqb q)

@@ -4,7 +4,7 @@ use mathlib.Core.Bool.{true, false, _&&_}
 use mathlib.Core.List.{List}
 use mathlib.Core.Option.{Option, none, some}
 use lib.ListN.{getD}
-use Rattle.paper.specs.Verdict.{smallest}
+use Rattle.paper.specs.Computed.{smallest}
 use Rattle.sets.specs.Sets.{mem}
 use Rattle.judge.specs.declared.suitable.First.{First}
 use Rattle.judge.specs.declared.suitable.First.the-variants.{At, Nothing as NoFirst}

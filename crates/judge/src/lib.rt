@@ -13,7 +13,7 @@ use verdicts::Verdict;
 use woven::weave;
 ghost use mathlib.Core.Path.{_≡_};
 ghost use Prim.Native.Nat.{_*_};
-ghost use Rattle.paper.specs.Verdict.{cases, examine, verdict};
+ghost use Rattle.paper.specs.Computed.{cases, examine, verdict};
 ghost use Rattle.tables.specs.Held.{held, aritiesOf, rulesOf};
 ghost use Rattle.tables.specs.Sound.{Sound};
 ghost use Rattle.verdicts.specs.Said.{said};

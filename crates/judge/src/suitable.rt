@@ -10,7 +10,7 @@ ghost use mathlib.Core.Path.{_≡_};
 ghost use Prim.Native.Nat.{_*_, _≤_, _<_};
 ghost use lib.ListN.{length, take};
 ghost use Rattle.sets.specs.Sets.{mem};
-ghost use Rattle.paper.specs.Verdict.{smallest, sharedPair};
+ghost use Rattle.paper.specs.Computed.{smallest, sharedPair};
 ghost use Rattle.sharing.specs.Share.{Exact, Tables as Shareable};
 ghost use Rattle.tables.specs.Sound.{Sound};
 ghost use Rattle.judge.specs.Merged.{Merged};

@@ -12,8 +12,7 @@ use Rattle.theory.specs.Preorder.{Token}
 use Rattle.theory.specs.Rewriting.{Rule}
 use Rattle.theory.specs.Automaton.{Automaton}
 use Rattle.theory.specs.Critical.{entry}
-use Rattle.theory.specs.Value.{value}
-use Rattle.theory.specs.Search.{critical}
+use Rattle.theory.specs.Value.{value, isCritical}
 use Rattle.theory.proofs.Value.{value-exact}
 use Rattle.sets.specs.Sets.{Set, mem, none, plus, less}
 use Rattle.sets.proofs.Laws.{mem-and, mem-zero}
@@ -127,12 +126,12 @@ module _ (arities words heads tokens : List ℕ) (at k : ℕ) (rule : Rule) (s :
 
   module _ (codes ls : List ℕ) (left : Spans at codes ls) (j : ℕ) (hj : j < 64) (σ : List ℕ) (agree : (a : ℕ) → setsOf codes j a ≡ plus none (entry σ a)) where
     -- No class on the left, no critical pair.
-    empty-calm : (q : ℕ) → lane j ls q ≡ false → critical M rule σ q ≡ false
-    unfolding critical automatonOf
+    empty-calm : (q : ℕ) → lane j ls q ≡ false → isCritical M rule σ q ≡ false
+    unfolding isCritical automatonOf
     empty-calm q e = and-off _ _ (ap (λ (t : Set). t q) (sym (exact at (rule .left) (s .after-left) (s .left) codes ls left j hj σ agree)) ∙ e)
 
-    same-critical : (rs : List ℕ) → Spans (at + 24) codes rs → (q : ℕ) → less (lane j ls) (lane j rs) q ≡ critical M rule σ q
-    unfolding critical
+    same-critical : (rs : List ℕ) → Spans (at + 24) codes rs → (q : ℕ) → less (lane j ls) (lane j rs) q ≡ isCritical M rule σ q
+    unfolding isCritical
     same-critical rs right q = ap₂ (λ a b. a && not b) (ap (λ (t : Set). t q) (exact at (rule .left) (s .after-left) (s .left) codes ls left j hj σ agree)) (ap (λ (t : Set). t q) (exact (at + 24) (rule .right) (s .after-right) (s .right) codes rs right j hj σ agree))
 
   module _ (v x0 x1 x2 : ℕ) (hk : k ≤ 64) (hv : v ≤ 4) (h0 : x0 < 64) (h1 : x1 < 64) (h2 : x2 < 64) where
@@ -149,7 +148,7 @@ module _ (arities words heads tokens : List ℕ) (at k : ℕ) (rule : Rule) (s :
       block-empty none-left = record { each = λ e. absurd (true≢false (sym e)); clear = λ e j hj q hq. empty-calm codes ls left j (agree j hj .0) _ (agree j hj .1) q (none-left j q hq) }
 
       module _ (right : Spans (at + 24) codes rs) where
-        same : (j : ℕ) → j < k ^ rest v 3 → (q : ℕ) → less (lane j ls) (lane j rs) q ≡ critical M rule (chosen v x0 x1 x2 j) q
+        same : (j : ℕ) → j < k ^ rest v 3 → (q : ℕ) → less (lane j ls) (lane j rs) q ≡ isCritical M rule (chosen v x0 x1 x2 j) q
         same j hj q = same-critical codes ls left j (agree j hj .0) _ (agree j hj .1) rs right q
 
         pub block-clear : ((j : ℕ) → (q : ℕ) → q < 64 → less (lane j ls) (lane j rs) q ≡ false) → Block M rule v x0 x1 x2 ls rs false
@@ -167,7 +166,7 @@ module _ (arities words heads tokens : List ℕ) (at k : ℕ) (rule : Rule) (s :
 
   -- A class x2 that is not alive.
   pub dead-calm : (v x0 x1 x2 live : ℕ) → k ≤ 64 → v ≤ 4 → x2 < 64 → Alive M rule v 2 x0 x1 live → mem live x2 ≡ false → Calm M rule v x0 x1 x2
-  unfolding automatonOf critical chosen
+  unfolding automatonOf isCritical chosen
   dead-calm v x0 x1 x2 live hk hv h2 alive e j hj q hq =
       let four : v ≡ 4 = omega (arith, alive .early x2 h2 e) in
       and-off _ _ (ap (λ n. value M (entry (chosen n x0 x1 x2 j)) (rule .left) q) four ∙ alive .dead x2 h2 e (j ∷ []) (single j (lane-low k v j hk hv hj .0)) (omega arith) q hq)
@@ -212,7 +211,7 @@ module _ (arities words heads tokens : List ℕ) (at k : ℕ) (rule : Rule) (s :
         let low : j < 32 = omega (arith, pow-1 k) in
         let one : (32 * d + j) / 32 ≡ d = omega arith in
         let place : (32 * d + j) % 32 ≡ j = omega arith in
-        (λ i. critical M rule (chosen 4 x0 x1 ((is ∙ ap (λ n. x2 + n) (sym one)) i) (sym place i)) q) ∙ t (32 * d + j) (omega arith) (off j low) q hq
+        (λ i. isCritical M rule (chosen 4 x0 x1 ((is ∙ ap (λ n. x2 + n) (sym one)) i) (sym place i)) q) ∙ t (32 * d + j) (omega arith) (off j low) q hq
 
     missed : (part : ℕ) (n : ℕ) (b : Bool) → mem part n ≡ (mem word n && b) → part ≡ 0 → b ≡ true → mem word n ≡ false
     missed part n b is e on = sym (and-true (mem word n)) ∙ ap (λ c. mem word n && c) (sym on) ∙ sym is ∙ ap (λ w. mem w n) e ∙ ap (λ (s : Set). s n) mem-zero

@@ -8,8 +8,7 @@ use Rattle.theory.specs.Preorder.{Token}
 use Rattle.theory.specs.Rewriting.{Rule}
 use Rattle.theory.specs.Automaton.{Automaton}
 use Rattle.theory.specs.Critical.{entry}
-use Rattle.theory.specs.Value.{value}
-use Rattle.theory.specs.Search.{critical}
+use Rattle.theory.specs.Value.{value, isCritical}
 use Rattle.sets.specs.Sets.{mem, less}
 use Rattle.woven.specs.Woven.{wovenMoves}
 use Rattle.values.specs.Lanes.{lane}
@@ -31,7 +30,7 @@ pub record Alive (M : Automaton) (rule : Rule) (v i x0 x1 mask : ℕ) : Type 0 w
 
 -- No substitution that begins with these three classes has a critical pair.
 abbrev pub Calm : (M : Automaton) → Rule → (v x0 x1 x2 : ℕ) → Type 0
-Calm M rule v x0 x1 x2 = (j : ℕ) → j < M .states ^ rest v 3 → (q : ℕ) → q < 64 → critical M rule (chosen v x0 x1 x2 j) q ≡ false
+Calm M rule v x0 x1 x2 = (j : ℕ) → j < M .states ^ rest v 3 → (q : ℕ) → q < 64 → isCritical M rule (chosen v x0 x1 x2 j) q ≡ false
 
 -- Every class of x2 with which there may be a critical pair is in the mask; x0 and x1 are the classes before it.
 abbrev pub Suspected : (M : Automaton) → Rule → (v x0 x1 mask : ℕ) → Type 0
@@ -43,7 +42,7 @@ Remembered arities words heads tokens from x0 x1 ends sets = (codes : List ℕ) 
 
 -- Two blocks at once: in the lower half of the lanes x2 has its class and in the upper half the next one, and x3 has the lane's place in its half. A lane that is not in the word has no critical pair.
 abbrev pub Twofold : (M : Automaton) → Rule → (x0 x1 x2 word : ℕ) → Type 0
-Twofold M rule x0 x1 x2 word = (j : ℕ) → j < 64 → mem word j ≡ false → (q : ℕ) → q < 64 → critical M rule (chosen 4 x0 x1 (x2 + j / 32) (j % 32)) q ≡ false
+Twofold M rule x0 x1 x2 word = (j : ℕ) → j < 64 → mem word j ≡ false → (q : ℕ) → q < 64 → isCritical M rule (chosen 4 x0 x1 (x2 + j / 32) (j % 32)) q ≡ false
 
 -- A class of x2 and the next one are judged: what was in the mask before is in it after, and each of the two with which there may be a critical pair.
 pub record Judged (M : Automaton) (rule : Rule) (x0 x1 x2 before after : ℕ) : Type 0 where
@@ -53,5 +52,5 @@ pub record Judged (M : Automaton) (rule : Rule) (x0 x1 x2 before after : ℕ) : 
 
 -- Whether a block may have a critical pair, and if so both sides' values in its lanes.
 pub record Block (M : Automaton) (rule : Rule) (v x0 x1 x2 : ℕ) (ls rs : List ℕ) (some : Bool) : Type 0 where
-  pub each : some ≡ true → (j : ℕ) → j < M .states ^ rest v 3 → (q : ℕ) → less (lane j ls) (lane j rs) q ≡ critical M rule (chosen v x0 x1 x2 j) q
+  pub each : some ≡ true → (j : ℕ) → j < M .states ^ rest v 3 → (q : ℕ) → less (lane j ls) (lane j rs) q ≡ isCritical M rule (chosen v x0 x1 x2 j) q
   pub clear : some ≡ false → Calm M rule v x0 x1 x2

@@ -3,6 +3,8 @@ use mathlib.Core.Bool.{cond}
 use mathlib.Core.List.{List, [], _∷_}
 use Prim.Native.Nat.{ℕ, zero, suc, _+_, _-_, max, min}
 use lib.Dec.{eqb, ltb}
+use lib.ListN.{getD}
+use Rattle.verdicts.specs.declared.CriticalPair.{CriticalPair}
 
 -- How many of v variables are left where the first i have their classes: the last one is always left, since all its classes are judged at once.
 unfoldable pub rest : ℕ → ℕ → ℕ
@@ -19,6 +21,18 @@ chosen (suc zero) x0 x1 x2 j = j ∷ []
 chosen (suc (suc zero)) x0 x1 x2 j = x0 ∷ j ∷ []
 chosen (suc (suc (suc zero))) x0 x1 x2 j = x0 ∷ x1 ∷ j ∷ []
 chosen (suc (suc (suc (suc v)))) x0 x1 x2 j = x0 ∷ x1 ∷ x2 ∷ j ∷ []
+
+-- The critical pair of that substitution: 255 stands for each variable that the rule does not have.
+unfoldable pub pairOf : (rule v x0 x1 x2 j q : ℕ) → CriticalPair
+pairOf rule v x0 x1 x2 j q =
+    record {
+      rule = rule;
+      x0 = getD (chosen v x0 x1 x2 j) 0 255;
+      x1 = getD (chosen v x0 x1 x2 j) 1 255;
+      x2 = getD (chosen v x0 x1 x2 j) 2 255;
+      x3 = getD (chosen v x0 x1 x2 j) 3 255;
+      class = q;
+    }
 
 -- The code of the variable i with the class x, where the variable `own` has its lane's class and the later ones have the code `later`.
 unfoldable pub codeOf : (own later i x : ℕ) → ℕ

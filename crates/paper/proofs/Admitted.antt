@@ -2,46 +2,42 @@
 use mathlib.Core.Path.{_≡_, refl, ap}
 use mathlib.Core.Logic.{inl, inr}
 use mathlib.Core.Bool.{Bool, true, false, _&&_, not, and-eq-true-iff, false≢true}
-use mathlib.Core.List.{List, [], _∷_, List·Memᴰ, List·Memᴰ·head, List·Memᴰ·tail, List·Memᴰ·not-nil, List·Memᴰ·append-cases, Memᴰ·append-left, Memᴰ·append-right, dropLast}
+use mathlib.Core.List.{List, [], _∷_, List·Memᴰ, List·Memᴰ·head, List·Memᴰ·tail, List·Memᴰ·not-nil, dropLast}
 use Prim.Native.Nat.{ℕ, zero, suc, _+_, _≤_, _<_}
 use Prim.Native.String.{String}
 use native.Mathlib.Omega.{arith}
 use native.Mathlib.Decide.{decLe}
 use lib.Dec.{eqb, leb, ltb, leb→le}
 use lib.ListN.{length, getD}
-use Rattle.theory.specs.Lists.{countFrom, some as any}
-use Rattle.theory.specs.Term.{Term, Terms, var, node, none, _then_, variables, variablesAll}
+use borrow.Author.Tests.{ltb-true}
+use Rattle.theory.specs.Lists.{countFrom, any}
+use Rattle.theory.specs.Term.{Term, var, variables}
 use Rattle.theory.specs.Rewriting.{variableCount}
 use Rattle.theory.specs.Automaton.{_of_gives_}
-use Rattle.theory.specs.Preorder.{argument, preorder, preorderAll}
 use Rattle.theory.proofs.Count.{order-mem}
 use Rattle.theory.proofs.Tests.{equal-iff, not-iff}
-use Rattle.paper.specs.Limits.{mostSymbols, mostArity, lastState, lastVariable, mostBytes}
-use Rattle.paper.specs.Judged.{Judged, fault, says}
-use Rattle.paper.specs.Lines.{takeLine, Said, judgedLine}
+use Rattle.paper.specs.Limits.{mostSymbols, mostArity, lastState, mostBytes}
+use Rattle.paper.specs.Checked.{Checked, fault, says}
+use Rattle.paper.specs.Lines.{takeLine, Said, checkedLine}
 use Rattle.paper.specs.Fields.{all, each, number, entries}
 use Rattle.paper.specs.Certificate.{Certificate, Kind, Budget, Arities, States, Trans, BadStates, BadTrans, Rules, Merge, row}
-use Rattle.paper.specs.Tables.{numbers, numbersOf, within, one, list, arityList, ascending, finalList, lastOf, transitionOf, fromNumbers, transition, numbered, classList}
-use Rattle.paper.specs.Sides.{known, term, same, bare, leftSide, rightSide}
+use Rattle.paper.specs.Tables.{numbers, numbersOf, within, singleNumber, numberList, arityList, finalList, lastOf, transitionOf, fromNumbers, transition, classList}
+use Rattle.paper.specs.Sides.{term, same, bare, leftSide, rightSide}
 use Rattle.paper.specs.Format.{Reading, refused, gave, Reader, goOn, _>>=_, _>>_, give, onLine, lineOf, fixed, times, rule, certificate, holds, wholeFile, readFile}
-use Rattle.paper.specs.WellFormed.{GoodTransition, GoodTerm, GoodRule, WellFormed}
+use Rattle.paper.specs.WellFormed.{Ascends, Numbered, GoodTransition, GoodTerm, GoodRule, WellFormed}
 use Rattle.paper.proofs.Smallest.{decided}
+use Rattle.paper.proofs.Words.{ascending-exact, numbered-exact}
+use Rattle.paper.proofs.Tokens.{all-mem, tokens-exact}
 use Rattle.paper.proofs.Exact.{listed-iff}
-use Rattle.paper.proofs.Judged.{Says, said, passed, spoken, anything}
+use Rattle.paper.proofs.Checked.{Says, said, passed, spoken, anything}
 use Rattle.paper.proofs.Lines.{entries-sound}
 use Rattle.paper.proofs.Preorder.{preorder-exact}
-use borrow.Author.Tests.{ltb-true}
 
 -- Facts behind tests.
-pub all-mem : {Y : Type 0} (test : Y → Bool) (ys : List Y) → all test ys ≡ true → (y : Y) → List·Memᴰ y ys → test y ≡ true
-unfolding all
-all-mem test (x ∷ ys) e y (List·Memᴰ·head h) = rw h (and-eq-true-iff (test x) (all test ys) .0 e .0)
-all-mem test (x ∷ ys) e y (List·Memᴰ·tail m) = all-mem test ys (and-eq-true-iff (test x) (all test ys) .0 e .1) y m
-
-all-last : (test : ℕ → Bool) (q : ℕ) (qs : List ℕ) → all test (q ∷ qs) ≡ true → test (lastOf (q ∷ qs)) ≡ true
+all-last : (test : ℕ → Bool) (q : ℕ) (qs : List ℕ) → all (q ∷ qs) test ≡ true → test (lastOf (q ∷ qs)) ≡ true
 unfolding all lastOf
 all-last test q [] e = and-eq-true-iff (test q) true .0 e .0
-all-last test q (r ∷ qs) e = all-last test r qs (and-eq-true-iff (test q) (all test (r ∷ qs)) .0 e .1)
+all-last test q (r ∷ qs) e = all-last test r qs (and-eq-true-iff (test q) (all (r ∷ qs) test) .0 e .1)
 
 pub same-lists : (xs ys : List ℕ) → same xs ys ≡ true → xs ≡ ys
 unfolding same
@@ -61,20 +57,20 @@ in-row : (kind : Kind) (n : ℕ) → within kind n ≡ true → InRow kind n
 unfolding within
 in-row kind n e = let (l, g) = and-eq-true-iff (leb (row kind .least) n) (leb n (row kind .greatest)) .0 e in (at-most _ _ l, at-most _ _ g)
 
-pub one-in : (kind : Kind) (value : List ℕ) → Says (InRow kind) (one kind value)
-unfolding one
+pub one-in : (kind : Kind) (value : List ℕ) → Says (InRow kind) (singleNumber kind value)
+unfolding singleNumber
 one-in kind value = said _ _ (anything _) (λ ns u. passed 4 _ _ (λ l. passed 5 _ _ (λ h. spoken _ _ (first ns l h))))
   where
-    first : (ns : List ℕ) → eqb (length ns) 1 ≡ true → all (within kind) ns ≡ true → InRow kind (getD ns 0 0)
+    first : (ns : List ℕ) → eqb (length ns) 1 ≡ true → all ns (within kind) ≡ true → InRow kind (getD ns 0 0)
     first [] l h = absurd (omega (arith, equal-iff 0 1 .0 l))
     first (n ∷ ns) l h = in-row kind n (all-mem (within kind) (n ∷ ns) h n (List·Memᴰ·head refl))
 
-list-in : (kind : Kind) (value : List ℕ) → Says (λ ns. (n : ℕ) → List·Memᴰ n ns → InRow kind n) (list kind value)
-unfolding list
+list-in : (kind : Kind) (value : List ℕ) → Says (λ ns. (n : ℕ) → List·Memᴰ n ns → InRow kind n) (numberList kind value)
+unfolding numberList
 list-in kind value = said _ _ (anything _) (λ ns u. passed 5 _ _ (λ h. spoken _ ns (λ n m. in-row kind n (all-mem (within kind) ns h n m))))
 
 -- As many are read as there are.
-each-length : {Y Z : Type 0} (f : Y → Judged Z) (ys : List Y) → Says (λ zs. length zs ≡ length ys) (each f ys)
+pub each-length : {Y Z : Type 0} (f : Y → Checked Z) (ys : List Y) → Says (λ zs. length zs ≡ length ys) (each f ys)
 unfolding each
 each-length f [] = spoken _ [] refl
 each-length f (y ∷ ys) = said _ _ (anything (f y)) (λ z u. said _ _ (each-length f ys) (λ zs l. spoken _ (z ∷ zs) (ap suc l)))
@@ -83,8 +79,8 @@ pub some-numbers : (value : List ℕ) → Says (λ ns. 1 ≤ length ns) (numbers
 unfolding numbers
 some-numbers value ns e = let i = entries-sound value in omega (arith, each-length number (entries value) ns e, ap length (i .are))
 
-some-arities-in : (value : List ℕ) → Says (λ ns. 1 ≤ length ns) (list Arities value)
-unfolding list row numbersOf
+some-arities-in : (value : List ℕ) → Says (λ ns. 1 ≤ length ns) (numberList Arities value)
+unfolding numberList row numbersOf
 some-arities-in value = said _ _ (some-numbers value) (λ ns s. passed 5 _ _ (λ h. spoken _ ns s))
 
 record GoodArities (ns : List ℕ) : Type 0 where
@@ -98,12 +94,12 @@ arities-in value = said {P = λ ns. ((n : ℕ) → List·Memᴰ n ns → InRow A
 
 record GoodFinal (n : ℕ) (qs : List ℕ) : Type 0 where
   below : (q : ℕ) → List·Memᴰ q qs → q < n
-  ascends : ascending 0 qs ≡ true
+  ascends : Ascends qs
 
 -- A final list has states only, and ascends.
 finals-in : (kind : Kind) (n : ℕ) (value : List ℕ) → Says (GoodFinal n) (finalList kind n value)
 unfolding finalList
-finals-in kind n value = said _ _ (anything _) (λ qs u. passed 5 _ _ (λ below. passed 7 _ _ (λ ascends. spoken _ qs (record { below = λ q m. ltb-true q n (all-mem (λ q. ltb q n) qs below q m); ascends = ascends }))))
+finals-in kind n value = said _ _ (anything _) (λ qs u. passed 5 _ _ (λ below. passed 7 _ _ (λ ascends. spoken _ qs (record { below = λ q m. ltb-true q n (all-mem (λ q. ltb q n) qs below q m); ascends = ascending-exact qs .0 ascends }))))
 
 length-dropLast : (q : ℕ) (qs : List ℕ) → length (dropLast (q ∷ qs)) ≡ length qs
 length-dropLast q [] = refl
@@ -119,10 +115,10 @@ transition-in : (arities : List ℕ) (n : ℕ) (value : List ℕ) → Says (Good
 unfolding transition transitionOf fromNumbers
 transition-in arities n value = said _ _ (anything _) go
   where
-    good : (f : ℕ) (qs : List ℕ) → ltb f (length arities) && all (λ q. ltb q n) qs ≡ true → eqb (length qs) (getD arities f 0 + 1) ≡ true → GoodTransition arities n (f of dropLast qs gives lastOf qs)
+    good : (f : ℕ) (qs : List ℕ) → ltb f (length arities) && all qs (λ q. ltb q n) ≡ true → eqb (length qs) (getD arities f 0 + 1) ≡ true → GoodTransition arities n (f of dropLast qs gives lastOf qs)
     good f [] h e = absurd (omega (arith, equal-iff 0 (getD arities f 0 + 1) .0 e))
     good f (q ∷ qs) h e =
-        let (l, b) = and-eq-true-iff (ltb f (length arities)) (all (λ q. ltb q n) (q ∷ qs)) .0 h in
+        let (l, b) = and-eq-true-iff (ltb f (length arities)) (all (q ∷ qs) (λ q. ltb q n)) .0 h in
         record {
           symbol = ltb-true f (length arities) l;
           count = omega (arith, length-dropLast q qs, equal-iff (length (q ∷ qs)) (getD arities f 0 + 1) .0 e);
@@ -132,34 +128,14 @@ transition-in arities n value = said _ _ (anything _) go
 
     go : (ns : List ℕ) → Unit {0} → Says (GoodTransition arities n) (fromNumbers arities n ns)
     go [] u t e = let z : _≡_ {A = ℕ} 0 1 = cc in absurd (omega arith)
-    go (f ∷ qs) u t e = passed 5 _ _ (λ h. passed 6 _ _ (λ l. spoken (GoodTransition arities n) _ (good f qs h l))) t e
-
-mutual
-  unfolding preorder variables
-
-  -- A term's variables stand among its tokens.
-  variable-token : (t : Term ℕ) {x : ℕ} → List·Memᴰ x (variables t) → List·Memᴰ (argument x) (preorder t)
-  variable-token (var y) (List·Memᴰ·head e) = List·Memᴰ·head (ap argument e)
-  variable-token (var y) (List·Memᴰ·tail m) = absurd (List·Memᴰ·not-nil m)
-  variable-token (node f ts) m = List·Memᴰ·tail (variable-tokens ts m)
-
-  variable-tokens : (ts : Terms ℕ) {x : ℕ} → List·Memᴰ x (variablesAll ts) → List·Memᴰ (argument x) (preorderAll ts)
-  variable-tokens none m = absurd (List·Memᴰ·not-nil m)
-  variable-tokens (t then ts) m = elim (List·Memᴰ·append-cases (variables t) m) [
-    | inl i ↦ Memᴰ·append-left (preorderAll ts) (variable-token t i)
-    | inr i ↦ Memᴰ·append-right (preorder t) (variable-tokens ts i)
-  ]
-
--- Its variables are x0 to x3.
-low : (arities : List ℕ) (t : Term ℕ) → GoodTerm arities t → (x : ℕ) → List·Memᴰ x (variables t) → x ≤ lastVariable
-unfolding known
-low arities t g x m = at-most x lastVariable (all-mem (known arities) (preorder t) (g .listed) (argument x) (variable-token t m))
+    go (f ∷ qs) u t e = passed _ _ _ (λ h. passed _ _ _ (λ l. spoken (GoodTransition arities n) _ (good f qs h l))) t e
 
 term-in : (arities value : List ℕ) → Says (GoodTerm arities) (term arities value)
 unfolding term
 term-in arities value = said _ _ (anything _) (λ ts u. passed 5 _ _ (λ h. passed 6 _ _ (λ l t e.
     let (q, ranked) = preorder-exact arities ts t .0 e in
-    record { ranked = ranked; listed = rw q h; tokens = rw q (at-most _ _ l) })))
+    let (listed, low) = tokens-exact arities t .0 (rw q h) in
+    record { ranked = ranked; listed = listed; low = low; tokens = rw q (at-most _ _ l) })))
 
 -- A left side is no bare variable, and its variables are in order.
 record LeftShaped (arities : List ℕ) (l : Term ℕ) : Type 0 where
@@ -169,7 +145,7 @@ record LeftShaped (arities : List ℕ) (l : Term ℕ) : Type 0 where
 
 left-shaped : (arities value : List ℕ) → Says (LeftShaped arities) (leftSide arities value)
 unfolding leftSide bare
-left-shaped arities value = said _ _ (term-in arities value) (λ l good. passed 9 _ _ (λ h.
+left-shaped arities value = said _ _ (term-in arities value) (λ l good. passed _ _ _ (λ h.
     let (b, s) = and-eq-true-iff (not (bare l)) _ .0 h in
     spoken _ l (record { good = good; notBare = λ x e. not-iff (bare l) .0 b (rw e refl); inOrder = same-lists _ _ s })))
 
@@ -177,7 +153,7 @@ left-shaped arities value = said _ _ (term-in arities value) (λ l good. passed 
 four : (arities : List ℕ) (l : Term ℕ) → LeftShaped arities l → length (variables l) ≤ 4
 four arities l s = elim (decLe (length (variables l)) 4) [
   | yes h ↦ h
-  | no h ↦ absurd (omega (arith, low arities l (s .good) 4 (rw (← s .inOrder) at (order-mem 0 (length (variables l)) 4 (omega arith) (omega arith)))))
+  | no h ↦ absurd (omega (arith, s .good .low 4 (rw (← s .inOrder) at (order-mem 0 (length (variables l)) 4 (omega arith) (omega arith)))))
 ]
 
 record RightShaped (arities : List ℕ) (l r : Term ℕ) : Type 0 where
@@ -186,19 +162,19 @@ record RightShaped (arities : List ℕ) (l r : Term ℕ) : Type 0 where
 
 right-shaped : (arities : List ℕ) (l : Term ℕ) (value : List ℕ) → Says (RightShaped arities l) (rightSide arities l value)
 unfolding rightSide
-right-shaped arities l value = said _ _ (term-in arities value) (λ r good. passed 10 _ _ (λ h. spoken _ r (record { good = good; known-left = λ x m. listed-iff x (variables l) .0 (all-mem (λ x. any (variables l) (eqb x)) (variables r) h x m) })))
+right-shaped arities l value = said _ _ (term-in arities value) (λ r good. passed _ _ _ (λ h. spoken _ r (record { good = good; known-left = λ x m. listed-iff x (variables l) .0 (all-mem (λ x. any (variables l) (eqb x)) (variables r) h x m) })))
 
 record GoodMerge (n : ℕ) (cs : List ℕ) : Type 0 where
   count : length cs ≡ n
   low : (c : ℕ) → List·Memᴰ c cs → c ≤ lastState
-  in-turn : numbered 0 cs ≡ true
+  in-turn : Numbered cs
 
 merge-in : (n : ℕ) (value : List ℕ) → Says (GoodMerge n) (classList n value)
 unfolding classList row
-merge-in n value = said _ _ (list-in Merge value) (λ cs h. passed 6 _ _ (λ l. passed 11 _ _ (λ t. spoken _ cs (record { count = equal-iff (length cs) n .0 l; low = λ c m. h c m .1; in-turn = t }))))
+merge-in n value = said _ _ (list-in Merge value) (λ cs h. passed 6 _ _ (λ l. passed 11 _ _ (λ t. spoken _ cs (record { count = equal-iff (length cs) n .0 l; low = λ c m. h c m .1; in-turn = numbered-exact cs .0 t }))))
 
 -- Whatever a reader gives fulfils P.
-abbrev Reads : {X : Type 0} → (X → Type 0) → Reader X → Type 0
+abbrev pub Reads : {X : Type 0} → (X → Type 0) → Reader X → Type 0
 Reads {X} P reader = (line : ℕ) (rest : List ℕ) (x : X) (line′ : ℕ) (rest′ : List ℕ) → reader line rest ≡ gave x line′ rest′ → P x
 
 module _ {X Y : Type 0} {P : X → Type 0} {Q : Y → Type 0} where
@@ -220,18 +196,18 @@ given : {Y : Type 0} (Q : Y → Type 0) (y : Y) → Q y → Reads Q (give y)
 unfolding give
 given Q y h line rest x line′ rest′ e = let same : y ≡ x = cc in rw same at h
 
-any-read : {Y : Type 0} (r : Reader Y) → Reads (λ y. Unit {0}) r
+pub any-read : {Y : Type 0} (r : Reader Y) → Reads (λ y. Unit {0}) r
 any-read r line rest y line′ rest′ e = tt
 
-on-line : {X : Type 0} (P : X → Type 0) (j : Judged (Said X)) → Says (λ s. P (s .what)) j → (line : ℕ) (x : X) (line′ : ℕ) (rest′ : List ℕ) → onLine line j ≡ gave x line′ rest′ → P x
+on-line : {X : Type 0} (P : X → Type 0) (j : Checked (Said X)) → Says (λ s. P (s .what)) j → (line : ℕ) (x : X) (line′ : ℕ) (rest′ : List ℕ) → onLine line j ≡ gave x line′ rest′ → P x
 unfolding onLine
 on-line P (fault n) h line x line′ rest′ e = let z : _≡_ {A = ℕ} 0 1 = cc in absurd (omega arith)
 on-line P (says s) h line x line′ rest′ e = let same : s .what ≡ x = cc in rw same at (h s refl)
 
 -- What a line gives is what its judgement says.
-line-read : {X : Type 0} {P : X → Type 0} (judge : List ℕ → Judged X) → ((value : List ℕ) → Says P (judge value)) → (key : String) → Reads P (lineOf key judge)
-unfolding lineOf judgedLine
-line-read {P = P} judge h key line rest = on-line P _ (said _ _ (anything (takeLine key rest)) (λ l u. said _ _ (h (l .value)) (λ x p. spoken (λ s. P (s .what)) _ p))) line
+pub line-read : {X : Type 0} {P : X → Type 0} (judge : List ℕ → Checked X) → ((value : List ℕ) → Says P (judge value)) → (key : String) → Reads P (lineOf key judge)
+unfolding lineOf checkedLine
+line-read {P = P} judge h key line rest = on-line P _ (said _ _ (anything (takeLine key rest)) (λ l u. said _ _ (h (l .what)) (λ x p. spoken (λ s. P (s .what)) _ p))) line
 
 both : {X : Type 0} {P : X → Type 0} {x : X} {xs : List X} → P x → ((y : X) → List·Memᴰ y xs → P y) → (y : X) → List·Memᴰ y (x ∷ xs) → P y
 both p ps y (List·Memᴰ·head e) = rw e p
@@ -245,7 +221,7 @@ times-read (suc n) r h = read r _ h (λ x p. read (times n r) _ (times-read n r 
 
 rule-read : (arities : List ℕ) → Reads (GoodRule arities) (rule arities)
 unfolding rule variableCount
-rule-read arities = read _ _ (line-read (leftSide arities) (left-shaped arities) "l") (λ l s. read _ _ (line-read (rightSide arities l) (right-shaped arities l) "r") (λ r t. given _ _ (record { shaped = record { notBare = s .notBare; inOrder = s .inOrder; known = t .known-left }; left = s .good; right = t .good; variables = four arities l s })))
+rule-read arities = read _ _ (line-read (leftSide arities) (left-shaped arities) "l") (λ l s. read _ _ (line-read (rightSide arities l) (right-shaped arities l) "r") (λ r t. given _ _ (record { shaped = record { notBare = s .notBare; inOrder = s .inOrder; fromLeft = t .known-left }; left = s .good; right = t .good; few = four arities l s })))
 
 -- What the lines give in their order is well formed.
 certificate-read : Reads WellFormed certificate

@@ -1,29 +1,32 @@
--- The total's largest value, and the answer's length.
-use mathlib.Core.Path.{_≡_, refl, ap, _∙_}
+-- The largest total, the ranges of a file's verdict, and the longest answer.
+use mathlib.Core.Path.{_≡_, refl, ap}
 use mathlib.Core.Logic.{inl, inr}
-use mathlib.Core.List.{List, [], _∷_, List·Memᴰ, List·Memᴰ·head, List·Memᴰ·tail, Memᴰ·append-right}
+use mathlib.Core.List.{List, [], _∷_, List·Memᴰ, List·Memᴰ·head, List·Memᴰ·tail}
 use mathlib.Core.Option.{Option, none, some}
-use Prim.Native.Nat.{ℕ, zero, suc, _+_, _*_, _^_, _-_, _≤_, _<_, _/_, _%_}
+use Prim.Native.Nat.{ℕ, suc, _+_, _*_, _-_, _^_, _≤_, _<_}
 use Prim.Native.String.{String}
 use native.Mathlib.Omega.{arith}
-use native.Mathlib.Nat.{le-trans, pow-le-pow-left, pow-le-pow-right}
-use lib.Dec.{ltb}
+use native.Mathlib.Nat.{le-trans, pow-le-pow-left, pow-le-pow-right, mul-le-mul-left}
 use lib.ListN.{length, length-append}
 use Rattle.theory.specs.Rewriting.{Rule, variableCount}
-use Rattle.theory.specs.Merging.{largest, classes, merged}
-use Rattle.theory.proofs.Search.{substitutions-sound}
-use Rattle.paper.specs.Bytes.{bytes, LF, comma, digit0}
-use Rattle.paper.specs.Limits.{mostBudget, mostStates, lastState, mostDigits, leastBuffer}
+use Rattle.theory.specs.Critical.{Substitutable}
+use Rattle.theory.specs.Automaton.{largest, classes, merged}
+use Rattle.theory.proofs.Merged.{merged-in-range}
+use Rattle.theory.proofs.Nth.{nth-mem, nth-below}
+use Rattle.theory.proofs.Search.{left-below}
+use Rattle.paper.specs.Bytes.{bytes}
+use Rattle.paper.specs.Limits.{mostBudget, mostStates, lastState, mostDigits, leastBuffer, mostRules, lastVariable}
 use Rattle.paper.specs.Certificate.{Certificate}
-use Rattle.paper.specs.Format.{File, malformed as refused, holds, readFile}
-use Rattle.paper.specs.Verdict.{Verdict, malformed, unsuitable, critical, accepted, stopped, verdict, verdictOn, verdictOf}
-use Rattle.paper.specs.Meaning.{total, Means, Given}
+use Rattle.paper.specs.Format.{Refusal, too-long, on-line}
+use Rattle.paper.specs.Meaning.{malformed, unsuitable, critical, accepted, stopped, Verdict, total, Means, Given}
+use Rattle.paper.specs.Computed.{verdict, verdictOn, verdictOf}
 use Rattle.paper.specs.WellFormed.{WellFormed}
-use Rattle.paper.specs.Answer.{digits, decimal, decimals, decimalIf, dash, lineWith, eight, answer, answerOf}
-use Rattle.paper.proofs.Smallest.{decided}
-use Rattle.paper.proofs.Cases.{cases-sound}
-use Rattle.paper.proofs.Exact.{verdict-exact}
+use Rattle.paper.specs.Answer.{decimals, decimalIf, dash, eight, answer, answerOf}
+use Rattle.paper.proofs.Exact.{final-classes, verdict-exact}
 use Rattle.paper.proofs.Admitted.{admitted}
+use Rattle.paper.proofs.Refused.{refused-or-holds}
+use Rattle.paper.proofs.Numbers.{decimal-length}
+use Rattle.paper.proofs.Lengths.{decimals-length, line-length}
 
 largest-bound : (ns : List ℕ) (b : ℕ) → ((n : ℕ) → List·Memᴰ n ns → n ≤ b) → largest ns ≤ b
 unfolding largest
@@ -43,64 +46,102 @@ total-rules k (rule ∷ R) l h =
     omega (arith, total-rules k R l (λ r m. h r (List·Memᴰ·tail m)))
 
 -- The total's largest value is 32 x 1,048,576 = 33,554,432.
-pub total-bound : (c : Certificate) → WellFormed c → total (classes (c .merge)) (c .rules) ≤ mostBudget
-total-bound c w = omega (arith, total-rules (classes (c .merge)) (c .rules) (classes-bound c w) (λ rule m. w .rules rule m .variables), w .most-rules)
+pub total-most : (c : Certificate) → WellFormed c → total (classes (c .merge)) (c .rules) ≤ mostBudget
+total-most c w = omega (arith, total-rules (classes (c .merge)) (c .rules) (classes-bound c w) (λ rule m. w .rules rule m .few), w .most-rules)
 
--- A number has at most 8 digits.
-pub digits-length : (k n : ℕ) (bs : List ℕ) → length (digits k n bs) ≤ suc k + length bs
-unfolding digits
-digits-length zero n bs = omega arith
-digits-length (suc k) n bs = elim (decided (ltb n 10)) [
-  | inl e ↦ rw (e, digits) (omega arith)
-  | inr e ↦ rw (e, digits) (omega (arith, digits-length k (n / 10) ((digit0 + n % 10) ∷ bs)))
+-- A critical pair of rule i, the classes xs and the class q, found at the n-th substitution.
+pub record CriticalRanged (i : ℕ) (xs : List ℕ) (q n : ℕ) : Type 0 where
+  pub rule : i < mostRules
+  pub variables : length xs ≤ suc lastVariable
+  pub classes : (x : ℕ) → List·Memᴰ x xs → x < mostStates
+  pub class : q < mostStates
+  pub examined : n ≤ mostBudget
+
+-- Each number is in its range.
+unfoldable pub Ranged : Verdict → Type 0
+Ranged (malformed number line) = Refusal number line
+Ranged (unsuitable class bad) = (class < mostStates) × (bad < mostStates)
+Ranged (critical rule xs class examined) = CriticalRanged rule xs class examined
+Ranged (accepted examined) = examined ≤ mostBudget
+Ranged (stopped examined) = examined ≤ mostBudget
+
+module _ (c : Certificate) (w : WellFormed c) where
+  given-ranged : (v : Verdict) → Given c v → Ranged v
+  unfolding Given Means Ranged merged Substitutable
+  given-ranged (malformed number line) g = absurd g
+  given-ranged (unsuitable q p) (s, t) = (omega (arith, final-classes (c .merge) (c .A) q (t .itself .class), classes-bound c w), omega (arith, w .B .final p (t .itself .state), w .B .most-states))
+  given-ranged (critical rule xs q n) (s, f, l) =
+      let rule-in = nth-mem (c .rules) (f .pair .number) (f .pair .listed) in
+      let few = classes-bound c w in
+      record {
+        rule = omega (arith, nth-below (c .rules) (f .pair .number) (f .pair .rule) (f .pair .listed), f .number, w .most-rules);
+        variables = omega (arith, ap length (f .classes), f .pair .complete, w .rules (f .pair .rule) rule-in .few);
+        classes = λ x j. omega (arith, f .pair .allowed x (rw (← f .classes) at j));
+        class = omega (arith, f .named, left-below (merged-in-range (c .merge) (c .A)) (f .pair .rule .left) (w .rules (f .pair .rule) rule-in .shaped .notBare) (f .pair .left));
+        examined = omega (arith, w .budget);
+      }
+  given-ranged (accepted n) (s, a, l, e) = omega (arith, w .budget)
+  given-ranged (stopped n) (s, q, l, e) = omega (arith, w .budget)
+
+-- Every number of a file's verdict is in its range.
+pub verdict-ranged : (file : List ℕ) → Ranged (verdictOf file)
+unfolding verdictOf verdictOn Ranged
+verdict-ranged file = elim (refused-or-holds file) [
+  | inl (number, line, e, r) ↦ rw e r
+  | inr (c, e) ↦ rw e (given-ranged c (admitted file c e) (verdict c) (verdict-exact c (admitted file c e) (verdict c) .0 refl))
 ]
 
-decimal-length : (n : ℕ) → length (decimal n) ≤ mostDigits
-unfolding decimal
-decimal-length n = omega (arith, digits-length (mostDigits - 1) n [])
+-- Counts and lines of at most l + 1 digits, all other numbers of at most s + 1, and at most four classes.
+pub record CriticalFits (s l i : ℕ) (xs : List ℕ) (q n : ℕ) : Type 0 where
+  pub rule : i < 10 ^ suc s
+  pub four : length xs ≤ 4
+  pub classes : (x : ℕ) → List·Memᴰ x xs → x < 10 ^ suc s
+  pub class : q < 10 ^ suc s
+  pub examined : n < 10 ^ suc l
 
-decimals-length : (ns : List ℕ) → length (decimals ns) ≤ 9 * length ns
-unfolding decimals
-decimals-length [] = omega arith
-decimals-length (n ∷ []) = omega (arith, decimal-length n)
-decimals-length (n ∷ m ∷ ns) = omega (arith, length-append (decimal n) (comma ∷ decimals (m ∷ ns)), decimal-length n, decimals-length (m ∷ ns))
-
-if-length : (o : Option ℕ) → length (decimalIf o) ≤ mostDigits
-unfolding decimalIf dash bytes
-if-length none = omega arith
-if-length (some n) = decimal-length n
-
-line-length : (key : String) (value : List ℕ) → length (lineWith key value) ≡ length (bytes key) + length value + 2
-unfolding lineWith bytes
-line-length key value = length-append (bytes key) _ ∙ omega (arith, length-append value (LF ∷ []))
+unfoldable pub Fits : (s l : ℕ) → Verdict → Type 0
+Fits s l (malformed number none) = number < 10 ^ suc s
+Fits s l (malformed number (some line)) = (number < 10 ^ suc s) × (line < 10 ^ suc l)
+Fits s l (unsuitable class bad) = (class < 10 ^ suc s) × (bad < 10 ^ suc s)
+Fits s l (critical rule xs class examined) = CriticalFits s l rule xs class examined
+Fits s l (accepted examined) = examined < 10 ^ suc l
+Fits s l (stopped examined) = examined < 10 ^ suc l
 
 -- The eight lines are as long as their keys and values.
 eight-length : (v : String) (a b c d e f g : List ℕ) → length (eight v a b c d e f g) ≡ length (bytes v) + length a + length b + length c + length d + length e + length f + length g + 55
 unfolding eight bytes
 eight-length v a b c d e f g = simp (length-append, line-length) (omega arith)
 
--- The critical verdict's substitution has at most four classes.
-critical-four : (c : Certificate) → WellFormed c → (rule : ℕ) (xs : List ℕ) (q n : ℕ) → verdict c ≡ critical rule xs q n → length xs ≤ 4
-unfolding Given Means classes merged
-critical-four c w rule xs q n e =
-    let (s, f, l) = verdict-exact c w (critical rule xs q n) .0 e in
-    let (m, i) = cases-sound (classes (c .merge)) 0 (c .rules) (rw (f .split) at (Memᴰ·append-right (f .before) (List·Memᴰ·head {x = f .this} {xs = f .rest} refl))) in
-    omega (arith, ap length (f .classes), substitutions-sound (classes (c .merge)) (variableCount (f .this .rule)) i .0, w .rules (f .this .rule) m .variables)
+-- The answer to critical is the longest: rule, four classes with their commas, class, and the examined count.
+pub answer-length : (s l : ℕ) (v : Verdict) → Fits s l v → length (answer v) ≤ 76 + 6 * s + l
+unfolding answer dash bytes Fits decimalIf
+answer-length s l (malformed number none) h = rw eight-length (omega (arith, decimal-length s number h))
+answer-length s l (malformed number (some line)) (h, g) = rw eight-length (omega (arith, decimal-length s number h, decimal-length l line g))
+answer-length s l (unsuitable class bad) (h, g) = rw eight-length (omega (arith, decimal-length s class h, decimal-length s bad g, decimal-length 0 0 (omega arith)))
+answer-length s l (critical rule xs class n) h =
+    let classes : length (decimals xs) ≤ suc (suc s) * 4 - 1 = omega (arith, decimals-length s xs (h .classes), mul-le-mul-left (suc (suc s)) (h .four)) in
+    rw eight-length (omega (arith, decimal-length s rule (h .rule), classes, decimal-length s class (h .class), decimal-length l n (h .examined)))
+answer-length s l (accepted n) h = rw eight-length (omega (arith, decimal-length l n h))
+answer-length s l (stopped n) h = rw eight-length (omega (arith, decimal-length l n h))
 
--- An answer is short where its substitution has at most four classes.
-pub short : (v : Verdict) → ((rule : ℕ) (xs : List ℕ) (q n : ℕ) → v ≡ critical rule xs q n → length xs ≤ 4) → length (answer v) < leastBuffer
-unfolding answer dash bytes
-short (malformed number line) h = omega (arith, eight-length "malformed" (decimal number) (decimalIf line) dash dash dash dash dash, decimal-length number, if-length line)
-short (unsuitable class bad) h = omega (arith, eight-length "unsuitable" dash dash dash dash (decimal class) (decimal bad) (decimal 0), decimal-length class, decimal-length bad, decimal-length 0)
-short (critical rule xs class n) h = omega (arith, eight-length "critical" dash dash (decimal rule) (decimals xs) (decimal class) dash (decimal n), decimal-length rule, decimals-length xs, decimal-length class, decimal-length n, h rule xs class n refl)
-short (accepted n) h = omega (arith, eight-length "accepted" dash dash dash dash dash dash (decimal n), decimal-length n)
-short (stopped n) h = omega (arith, eight-length "stopped" dash dash dash dash dash dash (decimal n), decimal-length n)
-
--- The longest answer is under 128 bytes.
-pub answer-short : (file : List ℕ) → length (answerOf file) < leastBuffer
-unfolding answerOf verdictOf verdictOn
-answer-short file = go (readFile file) refl
+-- In a file's verdict a count or a line has as many digits as a number in a file may have, and any other number has two.
+ranged-fits : (v : Verdict) → Ranged v → Fits 1 (mostDigits - 1) v
+unfolding Ranged Fits
+ranged-fits (malformed number line) r = refusal r
   where
-    go : (f : File) → readFile file ≡ f → length (answerOf file) < leastBuffer
-    go (refused number line) e = rw e (short (malformed number line) (λ rule xs q n d. let z : _≡_ {A = ℕ} 0 1 = cc in absurd (omega arith)))
-    go (holds c) e = rw e (short (verdict c) (critical-four c (admitted file c e)))
+    refusal : {number : ℕ} {line : Option ℕ} → Refusal number line → Fits 1 (mostDigits - 1) (malformed number line)
+    refusal too-long = omega arith
+    refusal (on-line l h m n) = (omega arith, omega arith)
+ranged-fits (unsuitable class bad) (h, g) = (omega arith, omega arith)
+ranged-fits (critical rule xs class n) r = record { rule = omega (arith, r .rule); four = omega (arith, r .variables); classes = λ x m. omega (arith, r .classes x m); class = omega (arith, r .class); examined = omega (arith, r .examined) }
+ranged-fits (accepted n) h = omega arith
+ranged-fits (stopped n) h = omega arith
+
+-- The longest answer to a file has at most 89 bytes: `verdict=critical` with a rule and five classes of two digits, and a count of as many digits as a budget.
+pub longest-answer : (file : List ℕ) → length (answerOf file) ≤ 89
+unfolding answerOf
+longest-answer file = answer-length 1 (mostDigits - 1) (verdictOf file) (ranged-fits (verdictOf file) (verdict-ranged file))
+
+-- It is under 128 bytes.
+pub answer-short : (file : List ℕ) → length (answerOf file) < leastBuffer
+answer-short file = omega (arith, longest-answer file)

@@ -4,23 +4,23 @@ use mathlib.Core.Logic.{inl, inr, _↔_}
 use mathlib.Core.Bool.{true, and-eq-true-iff}
 use mathlib.Core.List.{List, [], _∷_, map, List·Memᴰ, List·Memᴰ·head, List·Memᴰ·tail, List·Memᴰ·not-nil, List·Memᴰ·append-cases, Memᴰ·append-left, Memᴰ·append-right, Memᴰ·map, Memᴰ·of-map, Memᴰ·cast}
 use mathlib.Core.Option.{none, some}
-use Prim.Native.Nat.{ℕ, zero, suc, _*_, _^_}
+use Prim.Native.Nat.{ℕ, zero, suc, _+_, _*_, _^_}
 use native.Mathlib.Omega.{arith}
 use native.Mathlib.Nat.{zero-mul, suc-mul, pow-zero, pow-succ'}
 use lib.ListN.{length, length-append, length-map}
-use Rattle.theory.specs.Lists.{countFrom}
+use Rattle.theory.specs.Lists.{countFrom, Nth}
 use Rattle.theory.specs.Rewriting.{Rule, variableCount, WellShaped}
 use Rattle.theory.specs.Automaton.{Automaton, InRange}
-use Rattle.theory.specs.Critical.{entry, Substitutable, Acritical}
-use Rattle.theory.specs.Value.{value}
-use Rattle.theory.specs.Search.{spread, substitutions, critical as isCritical}
+use Rattle.theory.specs.Critical.{entry}
+use Rattle.theory.specs.Value.{value, spread, substitutions, isCritical}
 use Rattle.theory.proofs.Count.{length-count}
 use Rattle.theory.proofs.Tests.{not-iff}
 use Rattle.theory.proofs.Value.{value-exact}
-use Rattle.theory.proofs.Search.{substitutions-sound, substitutions-complete, left-below}
-use Rattle.paper.specs.Verdict.{Case, case, cases, criticalClass}
-use Rattle.paper.specs.Meaning.{total, Smallest, CriticalFor, Quiet}
+use Rattle.theory.proofs.Search.{left-below}
+use Rattle.paper.specs.Computed.{Case, case, cases, criticalClass}
+use Rattle.paper.specs.Meaning.{total, Smallest}
 use Rattle.paper.proofs.Smallest.{smallest-some, smallest-none}
+use Rattle.paper.proofs.Listed.{CriticalFor}
 
 length-spread : (cs : List ℕ) (ls : List (List ℕ)) → length (spread cs ls) ≡ length cs * length ls
 unfolding spread
@@ -47,25 +47,17 @@ cases-sound k n (rule ∷ R) m = elim (List·Memᴰ·append-cases (map (case n r
   | inr i ↦ let (l, j) = cases-sound k (suc n) R i in (List·Memᴰ·tail l, j)
 ]
 
-cases-complete : (k n : ℕ) (R : List Rule) {rule : Rule} {σ : List ℕ} → List·Memᴰ rule R → List·Memᴰ σ (substitutions k (variableCount rule)) → (i : ℕ) × List·Memᴰ (case i rule σ) (cases k n R)
-unfolding cases
-cases-complete k n (r ∷ R) {rule} {σ} (List·Memᴰ·head e) j = (n, Memᴰ·append-left (cases k (suc n) R) (Memᴰ·cast (ap (λ r. case n r σ) e) (Memᴰ·map (case n r) (rw e at j))))
-cases-complete k n (r ∷ R) (List·Memᴰ·tail l) j = let (i, m) = cases-complete k (suc n) R l j in (i, Memᴰ·append-right (map (case n r) (substitutions k (variableCount r))) m)
+-- The substitutions of the rule number i stand there under its number.
+pub cases-complete : (k n : ℕ) (R : List Rule) (i j : ℕ) (rule : Rule) {σ : List ℕ} → Nth R i rule → List·Memᴰ σ (substitutions k (variableCount rule)) → j ≡ n + i → List·Memᴰ (case j rule σ) (cases k n R)
+unfolding cases Nth
+cases-complete k n [] i j rule l m e = absurd l
+cases-complete k n (r ∷ R) zero j rule {σ} l m e =
+    let same : j ≡ n = omega arith in
+    let here : List·Memᴰ (case n rule σ) (map (case n r) (substitutions k (variableCount r))) = rw l (Memᴰ·map (case n rule) m) in
+    Memᴰ·append-left (cases k (suc n) R) (Memᴰ·cast (ap (λ n. case n rule σ) same) here)
+cases-complete k n (r ∷ R) (suc i) j rule l m e = Memᴰ·append-right (map (case n r) (substitutions k (variableCount r))) (cases-complete k (suc n) R i j rule l m (omega arith))
 
 module _ (M : Automaton) (R : List Rule) where
-  -- No substitution has a critical pair exactly where there is none at all.
-  pub quiet-iff : Quiet M (cases (M .states) 0 R) ↔ Acritical M R
-  unfolding Acritical Substitutable
-  quiet-iff = (
-    λ quiet c.
-        let (i, m) = cases-complete (M .states) 0 R (c .listed) (rw (c .complete) at (substitutions-complete (M .states) (c .σ) (c .allowed))) in
-        quiet _ m (c .q) (record { left = c .left; notRight = c .notRight }),
-    λ acritical c m q k.
-        let (l, j) = cases-sound (M .states) 0 R m in
-        let (complete, allowed) = substitutions-sound (M .states) (variableCount (c .rule)) j in
-        acritical (record { rule = c .rule; listed = l; σ = c .σ; complete = complete; allowed = allowed; q = q; left = k .left; notRight = k .notRight }),
-  )
-
   pub critical-iff : (c : Case) (q : ℕ) → (isCritical M (c .rule) (c .σ) q ≡ true) ↔ CriticalFor M c q
   unfolding isCritical
   critical-iff c q = (
@@ -76,7 +68,7 @@ module _ (M : Automaton) (R : List Rule) where
   -- The class found is the smallest critical one.
   pub class-some : (c : Case) {q : ℕ} → criticalClass M c ≡ some q → Smallest (CriticalFor M c) q
   unfolding criticalClass
-  class-some c {q} e = let f = smallest-some _ 0 (M .states) e in record { holds = critical-iff c q .0 (f .passes); least = λ r k. f .first r (omega arith) (critical-iff c r .1 k) }
+  class-some c {q} e = let f = smallest-some _ 0 (M .states) e in record { itself = critical-iff c q .0 (f .passes); least = λ r k. f .first r (omega arith) (critical-iff c r .1 k) }
 
   module _ (range : InRange M) (shaped : (rule : Rule) → List·Memᴰ rule R → WellShaped rule) where
     -- Where no class is found none is critical.

@@ -2,7 +2,7 @@
 use mathlib.Core.Path.{_≡_, refl, sym, ap, _∙_}
 use mathlib.Core.Logic.{inl, inr, _↔_}
 use mathlib.Core.Bool.{Bool, true, false, not, and-eq-true-iff, false≢true}
-use mathlib.Core.List.{List, [], _∷_, _++_, map, append-assoc, append-nil, List·Memᴰ, List·Memᴰ·head, List·Memᴰ·tail, List·Memᴰ·not-nil, List·Memᴰ·append-cases, List·Memᴰ·cases-cons, List·Memᴰ·eq-of-singleton, Memᴰ·of-map, dropLast}
+use mathlib.Core.List.{List, [], _∷_, _++_, map, append-assoc, append-nil, List·Memᴰ, List·Memᴰ·head, List·Memᴰ·tail, List·Memᴰ·not-nil, List·Memᴰ·append-cases, List·Memᴰ·cases-cons, Memᴰ·of-map, dropLast}
 use Prim.Native.Nat.{ℕ, suc, _+_, _^_, _≤_, _<_}
 use Prim.Native.String.{String}
 use native.Mathlib.Omega.{arith}
@@ -10,57 +10,57 @@ use lib.Dec.{eqb, leb, ltb, lit<}
 use lib.ListN.{length, length-append}
 use borrow.Author.Tests.{le-leb, lt-ltb, eq-eqb, ne-eqb, ltb-true, leb-true}
 use Rattle.theory.specs.Term.{Term, var, node, variables}
-use Rattle.theory.specs.Lists.{some as any}
+use Rattle.theory.specs.Lists.{any}
 use Rattle.theory.specs.Rewriting.{Rule, variableCount}
-use Rattle.theory.specs.Preorder.{Token, function, argument, preorder}
+use Rattle.theory.specs.Preorder.{Token, symbol, variable, preorder}
+use Rattle.theory.specs.Automaton.{Transition}
 use Rattle.paper.specs.Bytes.{bytes, LF, comma, digit0, letterX}
 use Rattle.paper.specs.Limits.{mostSymbols, mostArity, mostStates, lastState, mostTokens, mostDigits, mostBytes}
-use Rattle.paper.specs.Judged
-use Rattle.paper.specs.Judged.{Judged, says, _unless_}
-use Rattle.paper.specs.Fields.{all, each, digit, isNumber, number, entries, token}
+use Rattle.paper.specs.Checked
+use Rattle.paper.specs.Checked.{Checked, says, _unless_}
+use Rattle.paper.specs.Fields.{all, each, digit, number, entries, token}
 use Rattle.paper.specs.Certificate.{Certificate, Kind, Budget, Arities, States, Final, Trans, BadStates, BadFinal, BadTrans, Rules, Merge, row}
-use Rattle.paper.specs.Sides.{known, term, same, bare, leftSide, rightSide}
-use Rattle.paper.specs.Tables.{numbers, numbersOf, within, one, list, arityList, ascending, finalList, lastOf, transitionOf, fromNumbers, transition, numbered, classList}
-use Rattle.theory.specs.Automaton.{Transition}
+use Rattle.paper.specs.Sides.{permitted, term, same, bare, leftSide, rightSide}
+use Rattle.paper.specs.Tables.{numbers, numbersOf, within, singleNumber, numberList, arityList, ascending, finalList, lastOf, transitionOf, fromNumbers, transition, numbered, classList}
 use Rattle.paper.specs.WellFormed.{GoodTransition, GoodTerm, GoodRule, WellFormed}
-use Rattle.paper.specs.Answer.{digits, decimal, decimals, lineWith}
-use Rattle.paper.specs.Lines.{judgedLine}
+use Rattle.paper.specs.Answer.{decimal, decimals, lineWith}
+use Rattle.paper.specs.Lines.{Without, checkedLine}
 use Rattle.paper.specs.Format.{gave, Reader, goOn, _>>=_, _>>_, give, onLine, lineOf, fixed, times, rule, end, certificate, holds, wholeFile, readFile}
-use Rattle.paper.specs.Spelling.{tokenText, tokensText, together, fixedText, transitionText, ruleText, fileOf}
-use Rattle.paper.proofs.Judged.{silent}
+use Rattle.paper.specs.Spelling.{tokenText, tokensText, together, fixedText, transitionText, ruleText, fileOf, transitionNumbers}
 use Rattle.paper.proofs.Exact.{listed-iff}
-use Rattle.paper.proofs.Admitted.{all-mem, admitted}
-use Rattle.paper.proofs.Smallest.{decided}
+use Rattle.paper.proofs.Words.{ascending-exact, numbered-exact}
+use Rattle.paper.proofs.Admitted.{admitted}
+use Rattle.paper.proofs.Tokens.{all-mem, tokens-exact}
 use Rattle.paper.proofs.Preorder.{preorder-exact}
-use Rattle.paper.proofs.Lines.{Without, Parted, joined, entries-complete, take-exact}
-use Rattle.paper.proofs.Numbers.{digit-facts, all-digits, number-exact}
-use Rattle.paper.proofs.Spelling.{joined-decimals, joined-tokens, spelled}
+use Rattle.paper.proofs.Lines.{Parted, joined, entries-complete, take-exact}
+use Rattle.paper.proofs.Numbers.{digit-facts, decimal-digits, decimal-first, number-exact}
+use Rattle.paper.proofs.Longest.{longest-file}
+use Rattle.paper.proofs.Spelling.{joined-decimals, joined-tokens, either-last, spelled}
 
-digits-without : (b : ℕ) (bs : List ℕ) → b < digit0 → all digit bs ≡ true → Without b bs
+digits-without : (b : ℕ) (bs : List ℕ) → b < digit0 → all bs digit ≡ true → Without b bs
 unfolding all
-digits-without b (d ∷ bs) h a (List·Memᴰ·head e) = let (low, high) = digit-facts d (and-eq-true-iff (digit d) (all digit bs) .0 a .0) in omega arith
-digits-without b (d ∷ bs) h a (List·Memᴰ·tail m) = digits-without b bs h (and-eq-true-iff (digit d) (all digit bs) .0 a .1) m
+digits-without b (d ∷ bs) h a (List·Memᴰ·head e) = let (low, high) = digit-facts d (and-eq-true-iff (digit d) (all bs digit) .0 a .0) in omega arith
+digits-without b (d ∷ bs) h a (List·Memᴰ·tail m) = digits-without b bs h (and-eq-true-iff (digit d) (all bs digit) .0 a .1) m
 
 -- What a text of entries never has: a byte below the digits.
 abbrev pub Plain : {Y : Type 0} → (Y → List ℕ) → Type 0
 Plain {Y} g = (y : Y) (b : ℕ) → b < digit0 → Without b (g y)
 
 pub decimal-plain : Plain decimal
-unfolding decimal all
-decimal-plain n b h = digits-without b (digits 7 n []) h (all-digits 7 n [] refl)
+decimal-plain n b h = digits-without b (decimal n) h (decimal-digits n)
 
 token-plain : Plain tokenText
 unfolding tokenText
-token-plain (function f) b h m = decimal-plain f b h m
-token-plain (argument x) b h (List·Memᴰ·head e) = omega arith
-token-plain (argument x) b h (List·Memᴰ·tail m) = decimal-plain x b h m
+token-plain (symbol f) b h m = decimal-plain f b h m
+token-plain (variable x) b h (List·Memᴰ·head e) = omega arith
+token-plain (variable x) b h (List·Memᴰ·tail m) = decimal-plain x b h m
 
 module _ {Y : Type 0} (g : Y → List ℕ) (plain : Plain g) where
   parted : (ys : List Y) → Parted (map g ys)
   parted ys e m i = let (y, n, p) = Memᴰ·of-map g ys m in plain y comma (omega arith) (rw p i)
 
   -- The text of a list of entries is parted into them again.
-  entries-of : (y : Y) (ys : List Y) → entries (joined (map g (y ∷ ys))) ≡ map g (y ∷ ys)
+  pub entries-of : (y : Y) (ys : List Y) → entries (joined (map g (y ∷ ys))) ≡ map g (y ∷ ys)
   entries-of y ys = entries-complete (map g ys) (g y) (parted (y ∷ ys))
 
   -- It has no LF.
@@ -73,8 +73,8 @@ module _ {Y : Type 0} (g : Y → List ℕ) (plain : Plain g) where
     | inr i ↦ elim (List·Memᴰ·cases-cons i) [ inl e ↦ omega arith | inr k ↦ no-LF (z ∷ ys) k ]
   ]
 
-each-complete : {Y Z : Type 0} (f : Z → Judged Y) (g : Y → Z) (ys : List Y) → ((y : Y) → List·Memᴰ y ys → f (g y) ≡ says y) → each f (map g ys) ≡ says ys
-unfolding each Judged._>>=_
+each-complete : {Y Z : Type 0} (f : Z → Checked Y) (g : Y → Z) (ys : List Y) → ((y : Y) → List·Memᴰ y ys → f (g y) ≡ says y) → each f (map g ys) ≡ says ys
+unfolding each Checked._>>=_
 each-complete f g [] h = refl
 each-complete f g (y ∷ ys) h = rw (h y (List·Memᴰ·head refl), each-complete f g ys (λ z m. h z (List·Memᴰ·tail m)))
 
@@ -84,35 +84,32 @@ unfolding numbers
 numbers-complete n ns h = rw (← joined-decimals (n ∷ ns), entries-of decimal decimal-plain n ns) (each-complete number decimal (n ∷ ns) (λ m i. number-exact (decimal m) m .1 (refl, h m i)))
 
 -- A test that passes is passed.
-pass : {Y : Type 0} (n : ℕ) (b : Bool) (j : Judged Y) {k : Judged Y} → b ≡ true → j ≡ k → Judged._>>_ (n unless b) j ≡ k
-unfolding _unless_ Judged._>>_
+pass : {Y : Type 0} (n : ℕ) (b : Bool) (j : Checked Y) {k : Checked Y} → b ≡ true → j ≡ k → Checked._>>_ (n unless b) j ≡ k
+unfolding _unless_ Checked._>>_
 pass n b j e d = rw e d
 
 -- What follows something said follows.
-follow : {X Y : Type 0} (j : Judged X) (k : X → Judged Y) {x : X} {l : Judged Y} → j ≡ says x → k x ≡ l → Judged._>>=_ j k ≡ l
-unfolding Judged._>>=_
+follow : {X Y : Type 0} (j : Checked X) (k : X → Checked Y) {x : X} {l : Checked Y} → j ≡ says x → k x ≡ l → Checked._>>=_ j k ≡ l
+unfolding Checked._>>=_
 follow j k e d = rw e d
 
-all-complete : {Y : Type 0} (test : Y → Bool) (ys : List Y) → ((y : Y) → List·Memᴰ y ys → test y ≡ true) → all test ys ≡ true
+all-complete : {Y : Type 0} (test : Y → Bool) (ys : List Y) → ((y : Y) → List·Memᴰ y ys → test y ≡ true) → all ys test ≡ true
 unfolding all
 all-complete test [] h = refl
-all-complete test (y ∷ ys) h = and-eq-true-iff (test y) (all test ys) .1 (h y (List·Memᴰ·head refl), all-complete test ys (λ z m. h z (List·Memᴰ·tail m)))
+all-complete test (y ∷ ys) h = and-eq-true-iff (test y) (all ys test) .1 (h y (List·Memᴰ·head refl), all-complete test ys (λ z m. h z (List·Memᴰ·tail m)))
 
 -- A text of numbers is not empty.
-decimals-cons : (n : ℕ) (ns : List ℕ) → ((m : ℕ) → List·Memᴰ m (n ∷ ns) → m < 10 ^ mostDigits) → (b : ℕ) × (bs : List ℕ) × (decimals (n ∷ ns) ≡ b ∷ bs)
-unfolding numbers each entries number isNumber _unless_ Judged._>>_ Judged._>>=_
-decimals-cons n ns h = go (decimals (n ∷ ns)) refl
-  where
-    go : (l : List ℕ) → decimals (n ∷ ns) ≡ l → (b : ℕ) × (bs : List ℕ) × (decimals (n ∷ ns) ≡ b ∷ bs)
-    go [] e = absurd (silent (rw e at (numbers-complete n ns h)))
-    go (b ∷ bs) e = (b, bs, e)
+pub decimals-cons : (n : ℕ) (ns : List ℕ) → (b : ℕ) × (bs : List ℕ) × (decimals (n ∷ ns) ≡ b ∷ bs)
+unfolding decimals
+decimals-cons n [] = let f = decimal-first n in (f .first, f .rest, f .is)
+decimals-cons n (m ∷ ns) = let f = decimal-first n in (f .first, f .rest ++ (comma ∷ decimals (m ∷ ns)), ap (λ ds. ds ++ (comma ∷ decimals (m ∷ ns))) (f .is))
 
 pub numbersOf-complete : (b : Bool) (ns : List ℕ) → (b ≡ false → 1 ≤ length ns) → ((m : ℕ) → List·Memᴰ m ns → m < 10 ^ mostDigits) → numbersOf b (decimals ns) ≡ says ns
 unfolding numbersOf decimals
 numbersOf-complete true [] l h = refl
 numbersOf-complete false [] l h = absurd (omega (arith, l refl))
 numbersOf-complete false (n ∷ ns) l h = numbers-complete n ns h
-numbersOf-complete true (n ∷ ns) l h = let (b, bs, e) = decimals-cons n ns h in rw (e, numbersOf) (rw e at (numbers-complete n ns h))
+numbersOf-complete true (n ∷ ns) l h = let (b, bs, e) = decimals-cons n ns in rw (e, numbersOf) (rw e at (numbers-complete n ns h))
 
 within-complete : (kind : Kind) (n : ℕ) → row kind .least ≤ n → n ≤ row kind .greatest → within kind n ≡ true
 unfolding within
@@ -131,8 +128,8 @@ greatest-small BadTrans = lit< tt
 greatest-small Rules = lit< tt
 greatest-small Merge = lit< tt
 
-one-complete : (kind : Kind) (n : ℕ) → row kind .least ≤ n → n ≤ row kind .greatest → one kind (decimal n) ≡ says n
-unfolding one decimals
+one-complete : (kind : Kind) (n : ℕ) → row kind .least ≤ n → n ≤ row kind .greatest → singleNumber kind (decimal n) ≡ says n
+unfolding singleNumber decimals
 one-complete kind n l h = follow _ _ (numbersOf-complete (row kind .empty) (n ∷ []) (λ e. omega arith) (small n h)) (pass 4 _ _ refl (pass 5 _ _ (all-complete (within kind) (n ∷ []) (inside n l h)) refl))
   where
     small : (n : ℕ) → n ≤ row kind .greatest → (m : ℕ) → List·Memᴰ m (n ∷ []) → m < 10 ^ mostDigits
@@ -143,8 +140,8 @@ one-complete kind n l h = follow _ _ (numbersOf-complete (row kind .empty) (n �
     inside n l h m (List·Memᴰ·head e) = rw e (within-complete kind n l h)
     inside n l h m (List·Memᴰ·tail i) = absurd (List·Memᴰ·not-nil i)
 
-list-complete : (kind : Kind) (ns : List ℕ) → (row kind .empty ≡ false → 1 ≤ length ns) → ((m : ℕ) → List·Memᴰ m ns → (row kind .least ≤ m) × (m ≤ row kind .greatest)) → list kind (decimals ns) ≡ says ns
-unfolding list
+list-complete : (kind : Kind) (ns : List ℕ) → (row kind .empty ≡ false → 1 ≤ length ns) → ((m : ℕ) → List·Memᴰ m ns → (row kind .least ≤ m) × (m ≤ row kind .greatest)) → numberList kind (decimals ns) ≡ says ns
+unfolding numberList
 list-complete kind ns l h = follow _ _ (numbersOf-complete (row kind .empty) ns l (λ m i. omega (arith, greatest-small kind, h m i .1))) (pass 5 _ _ (all-complete (within kind) ns (λ m i. within-complete kind m (h m i .0) (h m i .1))) refl)
 
 arities-complete : (ns : List ℕ) → 1 ≤ length ns → length ns ≤ mostSymbols → ((a : ℕ) → List·Memᴰ a ns → a ≤ mostArity) → arityList (decimals ns) ≡ says ns
@@ -171,38 +168,40 @@ last-of [] q = refl
 last-of (p ∷ []) q = refl
 last-of (p ∷ r ∷ qs) q = last-of (r ∷ qs) q
 
-either-last : {P : ℕ → Type 0} (qs : List ℕ) (q : ℕ) → ((p : ℕ) → List·Memᴰ p qs → P p) → P q → (p : ℕ) → List·Memᴰ p (qs ++ (q ∷ [])) → P p
-either-last {P} qs q h g p m = elim (List·Memᴰ·append-cases qs m) [ inl i ↦ h p i | inr i ↦ let same = List·Memᴰ·eq-of-singleton i in rw same g ]
-
-transition-complete : (arities : List ℕ) (n : ℕ) (t : Transition) → length arities ≤ mostSymbols → n ≤ mostStates → GoodTransition arities n t → transition arities n (decimals (t .symbol ∷ (t .arguments ++ (t .target ∷ [])))) ≡ says t
+transition-complete : (arities : List ℕ) (n : ℕ) (t : Transition) → length arities ≤ mostSymbols → n ≤ mostStates → GoodTransition arities n t → transition arities n (decimals (transitionNumbers t)) ≡ says t
 unfolding transition transitionOf fromNumbers
 transition-complete arities n t la ln g =
     let states : (q : ℕ) → List·Memᴰ q (t .arguments ++ (t .target ∷ [])) → q < n = either-last (t .arguments) (t .target) (g .arguments) (g .target) in
     follow _ _ (numbers-complete (t .symbol) (t .arguments ++ (t .target ∷ [])) (small (t .symbol) (t .arguments ++ (t .target ∷ [])) (omega (arith, g .symbol)) states)) (
-    pass 5 _ _ (and-eq-true-iff (ltb (t .symbol) (length arities)) (all (λ q. ltb q n) (t .arguments ++ (t .target ∷ []))) .1 (lt-ltb _ _ (g .symbol), all-complete (λ q. ltb q n) (t .arguments ++ (t .target ∷ [])) (λ q m. lt-ltb _ _ (states q m)))) (
-    pass 6 _ _ (eq-eqb _ _ (length-append (t .arguments) (t .target ∷ []) ∙ omega (arith, g .count))) (rw (drop-last (t .arguments) (t .target), last-of (t .arguments) (t .target)))))
+    pass _ _ _ (and-eq-true-iff (ltb (t .symbol) (length arities)) (all (t .arguments ++ (t .target ∷ [])) (λ q. ltb q n)) .1 (lt-ltb _ _ (g .symbol), all-complete (λ q. ltb q n) (t .arguments ++ (t .target ∷ [])) (λ q m. lt-ltb _ _ (states q m)))) (
+    pass _ _ _ (eq-eqb _ _ (length-append (t .arguments) (t .target ∷ []) ∙ omega (arith, g .count))) (rw (drop-last (t .arguments) (t .target), last-of (t .arguments) (t .target)))))
   where
     small : (f : ℕ) (qs : List ℕ) → f < mostSymbols → ((q : ℕ) → List·Memᴰ q qs → q < n) → (m : ℕ) → List·Memᴰ m (f ∷ qs) → m < 10 ^ mostDigits
     small f qs l h m (List·Memᴰ·head e) = omega arith
     small f qs l h m (List·Memᴰ·tail i) = omega (arith, h m i)
 
-token-complete : (t : Token) (arities : List ℕ) → length arities ≤ mostSymbols → known arities t ≡ true → token (tokenText t) ≡ says t
-unfolding token tokenText known number isNumber _unless_ Judged._>>_ decimal all
-token-complete (function f) arities l h = go (decimal f) refl
-  where
-    small : f < 10 ^ mostDigits
-    small = omega (arith, ltb-true f (length arities) h)
+-- The number in a token.
+unfoldable pub numeral : Token → ℕ
+numeral (symbol f) = f
+numeral (variable x) = x
 
-    go : (bs : List ℕ) → decimal f ≡ bs → token bs ≡ says (function f)
-    go [] e = absurd (silent (rw e at (number-exact (decimal f) f .1 (refl, small))))
-    go (b ∷ bs) e =
-        let here : all digit (b ∷ bs) ≡ true = sym (ap (all digit) e) ∙ all-digits 7 f [] refl in
-        let (low, high) = digit-facts b (and-eq-true-iff (digit b) (all digit bs) .0 here .0) in
-        let other : eqb b letterX ≡ false = ne-eqb b letterX (λ d. omega arith) in
-        rw (other, token) (follow _ _ (rw e at (number-exact (decimal f) f .1 (refl, small))) refl)
-token-complete (argument x) arities l h = follow _ _ (number-exact (decimal x) x .1 (refl, omega (arith, leb-true x 3 h))) refl
+-- A token with a number of at most 8 digits is read back.
+pub token-complete : (t : Token) → numeral t < 10 ^ mostDigits → token (tokenText t) ≡ says t
+unfolding token tokenText numeral all
+token-complete (symbol f) small =
+    let d = decimal-first f in
+    let here : all (d .first ∷ d .rest) digit ≡ true = sym (ap (λ l. all l digit) (d .is)) ∙ decimal-digits f in
+    let (low, high) = digit-facts (d .first) (and-eq-true-iff (digit (d .first)) (all (d .rest) digit) .0 here .0) in
+    let other : eqb (d .first) letterX ≡ false = ne-eqb (d .first) letterX (λ e. omega arith) in
+    rw (d .is, other, token) (follow _ _ (rw (d .is) at (number-exact (decimal f) f .1 (refl, small))) refl)
+token-complete (variable x) small = follow _ _ (number-exact (decimal x) x .1 (refl, small)) refl
 
-tokens-complete : (y : Token) (ys : List Token) → ((t : Token) → List·Memᴰ t (y ∷ ys) → token (tokenText t) ≡ says t) → each token (entries (tokensText (y ∷ ys))) ≡ says (y ∷ ys)
+known-short : (t : Token) (arities : List ℕ) → length arities ≤ mostSymbols → permitted arities t ≡ true → numeral t < 10 ^ mostDigits
+unfolding numeral permitted
+known-short (symbol f) arities l h = omega (arith, ltb-true f (length arities) h)
+known-short (variable x) arities l h = omega (arith, leb-true x 3 h)
+
+pub tokens-complete : (y : Token) (ys : List Token) → ((t : Token) → List·Memᴰ t (y ∷ ys) → token (tokenText t) ≡ says t) → each token (entries (tokensText (y ∷ ys))) ≡ says (y ∷ ys)
 tokens-complete y ys h = rw (← joined-tokens (y ∷ ys), entries-of tokenText token-plain y ys) (each-complete token tokenText (y ∷ ys) h)
 
 no-tokens : (t : Term ℕ) → preorder t ≡ [] → ⊥
@@ -217,11 +216,11 @@ term-complete arities t l g = go (preorder t) refl
     go : (toks : List Token) → preorder t ≡ toks → term arities (tokensText (preorder t)) ≡ says t
     go [] e = absurd (no-tokens t e)
     go (y ∷ ys) e =
-        let known-all : all (known arities) (y ∷ ys) ≡ true = sym (ap (all (known arities)) e) ∙ g .listed in
+        let known-all : all (y ∷ ys) (permitted arities) ≡ true = sym (ap (λ l. all l (permitted arities)) e) ∙ tokens-exact arities t .1 (g .listed, g .low) in
         let few : length (y ∷ ys) ≤ mostTokens = omega (arith, g .tokens, ap length e) in
-        rw e (follow _ _ (tokens-complete y ys (λ u m. token-complete u arities l (all-mem (known arities) (y ∷ ys) known-all u m))) (pass 5 _ _ known-all (pass 6 _ _ (le-leb _ _ few) (preorder-exact arities (y ∷ ys) t .1 (e, g .ranked)))))
+        rw e (follow _ _ (tokens-complete y ys (λ u m. token-complete u (known-short u arities l (all-mem (permitted arities) (y ∷ ys) known-all u m)))) (pass 5 _ _ known-all (pass 6 _ _ (le-leb _ _ few) (preorder-exact arities (y ∷ ys) t .1 (e, g .ranked)))))
 
-same-complete : (xs ys : List ℕ) → xs ≡ ys → same xs ys ≡ true
+pub same-complete : (xs ys : List ℕ) → xs ≡ ys → same xs ys ≡ true
 unfolding same
 same-complete [] [] e = refl
 same-complete [] (y ∷ ys) e = let z : _≡_ {A = ℕ} 0 1 = cc in absurd (omega arith)
@@ -235,21 +234,21 @@ not-bare (node f ts) h = refl
 
 left-complete : (arities : List ℕ) (rule : Rule) → length arities ≤ mostSymbols → GoodRule arities rule → leftSide arities (tokensText (preorder (rule .left))) ≡ says (rule .left)
 unfolding leftSide variableCount
-left-complete arities rule l g = follow _ _ (term-complete arities (rule .left) l (g .left)) (pass 9 _ _ (and-eq-true-iff (not (bare (rule .left))) _ .1 (not-bare (rule .left) (g .shaped .notBare), same-complete _ _ (g .shaped .inOrder))) refl)
+left-complete arities rule l g = follow _ _ (term-complete arities (rule .left) l (g .left)) (pass _ _ _ (and-eq-true-iff (not (bare (rule .left))) _ .1 (not-bare (rule .left) (g .shaped .notBare), same-complete _ _ (g .shaped .inOrder))) refl)
 
 right-complete : (arities : List ℕ) (rule : Rule) → length arities ≤ mostSymbols → GoodRule arities rule → rightSide arities (rule .left) (tokensText (preorder (rule .right))) ≡ says (rule .right)
 unfolding rightSide
-right-complete arities rule l g = follow _ _ (term-complete arities (rule .right) l (g .right)) (pass 10 _ _ (all-complete (λ x. any (variables (rule .left)) (eqb x)) (variables (rule .right)) (λ x m. listed-iff x (variables (rule .left)) .1 (g .shaped .known x m))) refl)
+right-complete arities rule l g = follow _ _ (term-complete arities (rule .right) l (g .right)) (pass _ _ _ (all-complete (λ x. any (variables (rule .left)) (eqb x)) (variables (rule .right)) (λ x m. listed-iff x (variables (rule .left)) .1 (g .shaped .fromLeft x m))) refl)
 
 -- The reader takes the text t and gives x, whatever follows.
 abbrev Back : {X : Type 0} → Reader X → X → List ℕ → Type 0
 Back r x t = (line : ℕ) (rest : List ℕ) → (line′ : ℕ) × (r line (t ++ rest) ≡ gave x line′ rest)
 
-back-line : {X : Type 0} (key : String) (judge : List ℕ → Judged X) (value : List ℕ) (x : X) → judge value ≡ says x → Without LF value → Back (lineOf key judge) x (lineWith key value)
-unfolding lineOf judgedLine onLine lineWith Judged._>>=_
+back-line : {X : Type 0} (key : String) (judge : List ℕ → Checked X) (value : List ℕ) (x : X) → judge value ≡ says x → Without LF value → Back (lineOf key judge) x (lineWith key value)
+unfolding lineOf checkedLine onLine lineWith Checked._>>=_
 back-line key judge value x e w line rest =
     let whole : bytes key ++ bytes "=" ++ (value ++ (LF ∷ rest)) ≡ (bytes key ++ (bytes "=" ++ (value ++ (LF ∷ [])))) ++ rest = simp append-assoc in
-    let line-taken = take-exact key _ (record { value = value; rest = rest }) .1 (whole, w) in
+    let line-taken = take-exact key _ (record { what = value; rest = rest }) .1 (whole, w) in
     (suc line, rw (line-taken, e))
 
 back-bind : {X Y : Type 0} (r : Reader X) (k : X → Reader Y) {x : X} {y : Y} (t u : List ℕ) → Back r x t → Back (k x) y u → Back (r >>= k) y (t ++ u)
@@ -282,11 +281,11 @@ back-transition : (key : String) (arities : List ℕ) (n : ℕ) (t : Transition)
 unfolding transitionText
 back-transition key arities n t la ln g = back-line key _ _ t (transition-complete arities n t la ln g) (decimals-LF _)
 
-back-number : (kind : Kind) (n : ℕ) → row kind .least ≤ n → n ≤ row kind .greatest → Back (fixed kind one) n (fixedText kind (decimal n))
+back-number : (kind : Kind) (n : ℕ) → row kind .least ≤ n → n ≤ row kind .greatest → Back (fixed kind singleNumber) n (fixedText kind (decimal n))
 unfolding fixed fixedText
 back-number kind n l h = back-line _ _ _ n (one-complete kind n l h) (decimal-plain n LF (omega arith))
 
-back-list : (kind : Kind) (judge : Kind → List ℕ → Judged (List ℕ)) (ns : List ℕ) → judge kind (decimals ns) ≡ says ns → Back (fixed kind judge) ns (fixedText kind (decimals ns))
+back-list : (kind : Kind) (judge : Kind → List ℕ → Checked (List ℕ)) (ns : List ℕ) → judge kind (decimals ns) ≡ says ns → Back (fixed kind judge) ns (fixedText kind (decimals ns))
 unfolding fixed fixedText
 back-list kind judge ns e = back-line _ _ _ ns e (decimals-LF ns)
 
@@ -308,30 +307,23 @@ certificate-back c w =
     on-with _ _ (c .budget) (fixedText Budget (decimal (c .budget))) _ (back-number Budget (c .budget) (omega arith) (w .budget)) (
     on-with _ _ (c .arities) (fixedText Arities (decimals (c .arities))) _ (back-list Arities _ (c .arities) (arities-complete (c .arities) (w .some-arities) (w .most-arities) (w .arities))) (
     on-with _ _ (c .A .states) (fixedText States (decimal (c .A .states))) _ (back-number States (c .A .states) (w .A .some-states) (w .A .most-states)) (
-    on-with _ _ (c .A .final) (fixedText Final (decimals (c .A .final))) _ (back-list Final _ (c .A .final) (final-complete Final (c .A .states) (c .A .final) refl refl refl (w .A .most-states) (w .A .final) (w .A .final-ascending))) (
+    on-with _ _ (c .A .final) (fixedText Final (decimals (c .A .final))) _ (back-list Final _ (c .A .final) (final-complete Final (c .A .states) (c .A .final) refl refl refl (w .A .most-states) (w .A .final) (ascending-exact (c .A .final) .1 (w .A .final-ascending)))) (
     on-with _ _ (length (c .A .transitions)) (fixedText Trans (decimal (length (c .A .transitions)))) _ (back-number Trans (length (c .A .transitions)) (omega arith) (w .A .most-transitions)) (
     on-with _ _ (c .A .transitions) (together (transitionText "t") (c .A .transitions)) _ (back-times (transitionText "t") _ (c .A .transitions) (λ t m. back-transition "t" (c .arities) (c .A .states) t (w .most-arities) (w .A .most-states) (w .A .transitions t m))) (
     on-with _ _ (c .B .states) (fixedText BadStates (decimal (c .B .states))) _ (back-number BadStates (c .B .states) (w .B .some-states) (w .B .most-states)) (
-    on-with _ _ (c .B .final) (fixedText BadFinal (decimals (c .B .final))) _ (back-list BadFinal _ (c .B .final) (final-complete BadFinal (c .B .states) (c .B .final) refl refl refl (w .B .most-states) (w .B .final) (w .B .final-ascending))) (
+    on-with _ _ (c .B .final) (fixedText BadFinal (decimals (c .B .final))) _ (back-list BadFinal _ (c .B .final) (final-complete BadFinal (c .B .states) (c .B .final) refl refl refl (w .B .most-states) (w .B .final) (ascending-exact (c .B .final) .1 (w .B .final-ascending)))) (
     on-with _ _ (length (c .B .transitions)) (fixedText BadTrans (decimal (length (c .B .transitions)))) _ (back-number BadTrans (length (c .B .transitions)) (omega arith) (w .B .most-transitions)) (
     on-with _ _ (c .B .transitions) (together (transitionText "u") (c .B .transitions)) _ (back-times (transitionText "u") _ (c .B .transitions) (λ t m. back-transition "u" (c .arities) (c .B .states) t (w .most-arities) (w .B .most-states) (w .B .transitions t m))) (
     on-with _ _ (length (c .rules)) (fixedText Rules (decimal (length (c .rules)))) _ (back-number Rules (length (c .rules)) (omega arith) (w .most-rules)) (
     on-with _ _ (c .rules) (together ruleText (c .rules)) _ (back-times ruleText _ (c .rules) (λ r m. back-rule (c .arities) r (w .most-arities) (w .rules r m))) (
-    on-last _ _ (c .merge) (fixedText Merge (decimals (c .merge))) (back-list Merge _ (c .merge) (merge-complete (c .A .states) (c .merge) (w .A .some-states) (w .merge-count) (w .merge) (w .merge-numbered))) (
+    on-last _ _ (c .merge) (fixedText Merge (decimals (c .merge))) (back-list Merge _ (c .merge) (merge-complete (c .A .states) (c .merge) (w .A .some-states) (w .merge-count) (w .merge) (numbered-exact (c .merge) .1 (w .merge-numbered)))) (
     finish c)))))))))))))
 
--- The file that says a well-formed certificate is read as that certificate.
-pub read-back : (c : Certificate) → WellFormed c → length (fileOf c) ≤ mostBytes → readFile (fileOf c) ≡ holds c
+-- The file that says a well-formed certificate is read as that certificate: it is never too long.
+pub read-back : (c : Certificate) → WellFormed c → readFile (fileOf c) ≡ holds c
 unfolding readFile wholeFile
-read-back c w l = let (m, e) = certificate-back c w 1 in rw (le-leb (length (fileOf c)) mostBytes l, readFile, e)
+read-back c w = let (m, e) = certificate-back c w 1 in rw (le-leb (length (fileOf c)) mostBytes (omega (arith, longest-file c w)), readFile, e)
 
-short-enough : (file : List ℕ) (c : Certificate) → readFile file ≡ holds c → length file ≤ mostBytes
-unfolding readFile
-short-enough file c e = elim (decided (leb (length file) mostBytes)) [
-  | inl h ↦ leb-true (length file) mostBytes h
-  | inr h ↦ let f = rw (h, readFile) at e in let z : _≡_ {A = ℕ} 0 1 = cc in absurd (omega arith)
-]
-
--- A file holds c exactly when it is the file that says c, c is well formed, and it has at most 16,384 bytes.
-pub format-exact : (file : List ℕ) (c : Certificate) → (readFile file ≡ holds c) ↔ ((fileOf c ≡ file) × WellFormed c × (length file ≤ mostBytes))
-format-exact file c = (λ e. (spelled file c e, admitted file c e, short-enough file c e), λ (e, w, l). rw (← e) (read-back c w (rw (← e) at l)))
+-- A file holds c exactly when it is the file that says c, and c is well formed.
+pub format-exact : (file : List ℕ) (c : Certificate) → (readFile file ≡ holds c) ↔ ((fileOf c ≡ file) × WellFormed c)
+format-exact file c = (λ e. (spelled file c e, admitted file c e), λ (e, w). rw (← e) (read-back c w))

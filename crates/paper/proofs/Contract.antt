@@ -10,7 +10,7 @@ use lib.ListN.{length, take, drop, length-append, length-drop}
 use lib.Seq.{take-append-seam, drop-append-seam}
 use Rattle.paper.specs.Limits.{leastBuffer}
 use Rattle.paper.specs.Answer.{answerOf}
-use Rattle.paper.specs.Verdict.{verdictOf}
+use Rattle.paper.specs.Computed.{verdictOf}
 use Rattle.paper.specs.Contract.{refusal, returned}
 use Rattle.paper.proofs.Smallest.{decided}
 use Rattle.paper.proofs.Bounds.{answer-short}

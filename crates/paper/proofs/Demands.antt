@@ -1,22 +1,27 @@
 -- The theorems of document 01 for every file.
-use mathlib.Core.Path.{_≡_, refl, sym, ap, _∙_}
+use mathlib.Core.Path.{_≡_, refl, sym, ap₂, _∙_}
 use mathlib.Core.Logic.{_↔_}
 use mathlib.Core.List.{List}
 use mathlib.Core.Option.{Option}
 use Prim.Native.Nat.{ℕ, suc, _+_, _≤_}
 use native.Mathlib.Omega.{arith}
 use lib.ListN.{take}
-use Rattle.theory.specs.Safe.{Safe}
-use Rattle.theory.specs.Merging.{classes, merged}
-use Rattle.theory.specs.Critical.{Acritical, Suitable}
+use Rattle.theory.specs.Term.{Tree}
+use Rattle.theory.specs.Preorder.{Ground}
+use Rattle.theory.specs.Rewriting.{Rewrites, Safe}
+use Rattle.theory.specs.Automaton.{Automaton, Reaches, Accepts, classes, merged}
+use Rattle.theory.specs.Critical.{Acritical, Share, Suitable}
+use Rattle.theory.proofs.Safety.{complete}
+use Rattle.theory.proofs.Ranked.{FitsAll, reached-ground, merged-fits}
+use Rattle.paper.specs.Limits.{mostBudget}
 use Rattle.paper.specs.Certificate.{Certificate}
-use Rattle.paper.specs.Format.{File, malformed as refused, holds, readFile}
-use Rattle.paper.specs.Verdict.{Verdict, malformed, unsuitable, critical, accepted, stopped, examined, verdict, verdictOn, verdictOf}
-use Rattle.paper.specs.Meaning.{total, placeOf, Means, Given}
-use Rattle.paper.specs.WellFormed.{WellFormed}
+use Rattle.paper.specs.Format.{File, unreadable, holds, readFile}
+use Rattle.paper.specs.Meaning.{malformed, unsuitable, critical, accepted, stopped, Verdict, examined, total, placeOf, place, Means, Given}
+use Rattle.paper.specs.Computed.{verdictOn, verdictOf}
+use Rattle.paper.specs.WellFormed.{GoodAutomaton}
 use Rattle.paper.proofs.Exact.{verdict-exact, accepted-safe}
 use Rattle.paper.proofs.Admitted.{admitted}
-use Rattle.paper.proofs.Places.{cases-place}
+use Rattle.paper.proofs.Bounds.{total-most}
 
 -- Demand 2: a file that holds a certificate has the verdict v exactly when v's row of the table holds of the certificate.
 pub given-exactly : (file : List ℕ) (c : Certificate) → readFile file ≡ holds c → (v : Verdict) → (verdictOf file ≡ v) ↔ Given c v
@@ -24,22 +29,44 @@ unfolding verdictOf verdictOn
 given-exactly file c e v = rw e (verdict-exact c (admitted file c e) v)
 
 -- Two verdicts that the table allows are equal.
-pub one-verdict : (c : Certificate) → WellFormed c → (v w : Verdict) → Given c v → Given c w → v ≡ w
-one-verdict c f v w g h = sym (verdict-exact c f v .1 g) ∙ verdict-exact c f w .1 h
+pub one-verdict : (file : List ℕ) (c : Certificate) → readFile file ≡ holds c → (v w : Verdict) → Given c v → Given c w → v ≡ w
+one-verdict file c e v w g h = sym (given-exactly file c e v .1 g) ∙ given-exactly file c e w .1 h
 
 -- A file is malformed, by that number and on that line, exactly when it is refused so.
-pub malformed-exactly : (file : List ℕ) (number : ℕ) (line : Option ℕ) → (verdictOf file ≡ malformed number line) ↔ (readFile file ≡ refused number line)
+pub malformed-exactly : (file : List ℕ) (number : ℕ) (line : Option ℕ) → (verdictOf file ≡ malformed number line) ↔ (readFile file ≡ unreadable number line)
 unfolding verdictOf verdictOn Given Means
 malformed-exactly file number line = (back (readFile file) refl, λ e. rw e)
   where
-    back : (f : File) → readFile file ≡ f → verdictOn f ≡ malformed number line → f ≡ refused number line
-    back (refused n l) r e = let same : n ≡ number = cc in let here : l ≡ line = cc in cc
+    back : (f : File) → readFile file ≡ f → verdictOn f ≡ malformed number line → f ≡ unreadable number line
+    back (unreadable n l) r e = let same : n ≡ number = cc in let here : l ≡ line = cc in cc
     back (holds c) r e = absurd (verdict-exact c (admitted file c r) (malformed number line) .0 e)
 
 -- Demand 3: an accepted file's system is safe: no rewriting leads from a tree that A accepts to a tree that B accepts.
 pub accepted-is-safe : (file : List ℕ) (n : ℕ) → verdictOf file ≡ accepted n → (c : Certificate) → readFile file ≡ holds c → Safe (c .A) (c .rules) (c .B)
 unfolding verdictOf verdictOn
 accepted-is-safe file n e c r = accepted-safe c (admitted file c r) n (rw r at e)
+
+-- Closure: without a critical pair, whatever the rules make of a tree that A accepts is accepted by the merged automaton.
+pub closed-under-rewriting : (file : List ℕ) (c : Certificate) → readFile file ≡ holds c → Acritical (merged (c .merge) (c .A)) (c .rules) → (s t : Tree) → Accepts (c .A) s → Rewrites (c .rules) s t → Accepts (merged (c .merge) (c .A)) t
+closed-under-rewriting file c e a = complete (c .merge) (c .A) (c .rules) (λ rule m. admitted file c e .rules rule m .shaped) a
+
+fits : (arities : List ℕ) (A : Automaton) → GoodAutomaton arities A → FitsAll arities A
+fits arities A g t m = record { listed = g .transitions t m .symbol; full = g .transitions t m .count }
+
+-- What an automaton of a file reaches is a ground term of document 01: the merged automaton (so A too), and B.
+pub ground-merged : (file : List ℕ) (c : Certificate) → readFile file ≡ holds c → (t : Tree) (q : ℕ) → Reaches (merged (c .merge) (c .A)) t q → Ground (c .arities) t
+ground-merged file c e t q d = reached-ground (c .arities) _ (merged-fits (c .merge) (c .arities) (c .A) (fits (c .arities) (c .A) (admitted file c e .A))) d
+
+pub ground-B : (file : List ℕ) (c : Certificate) → readFile file ≡ holds c → (t : Tree) (p : ℕ) → Reaches (c .B) t p → Ground (c .arities) t
+ground-B file c e t p d = reached-ground (c .arities) (c .B) (fits (c .arities) (c .B) (admitted file c e .B)) d
+
+-- So the tree that an unsuitable merging shares with B is one.
+pub shared-ground : (file : List ℕ) (c : Certificate) → readFile file ≡ holds c → (q p : ℕ) → verdictOf file ≡ unsuitable q p → (t : Tree) × Ground (c .arities) t × Reaches (merged (c .merge) (c .A)) t q × Reaches (c .B) t p
+unfolding Given Means Share
+shared-ground file c e q p v =
+    let (least, pair) = given-exactly file c e (unsuitable q p) .0 v in
+    let (t, d, f) = pair .itself .shared in
+    (t, ground-B file c e t p f, d, f)
 
 means-within : (c : Certificate) (v : Verdict) → Given c v → examined v ≤ c .budget
 unfolding Given Means examined
@@ -50,24 +77,8 @@ means-within c (accepted n) m = omega (arith, m .2, m .3)
 means-within c (stopped n) m = omega (arith, m .3)
 
 -- The examined count never exceeds the budget.
-pub within-budget : (c : Certificate) → WellFormed c → examined (verdict c) ≤ c .budget
-within-budget c w = means-within c (verdict c) (verdict-exact c w (verdict c) .0 refl)
-
--- The certificate with another budget.
-abbrev pub rebudget : Certificate → ℕ → Certificate
-rebudget c budget = record { budget = budget; arities = c .arities; A = c .A; B = c .B; rules = c .rules; merge = c .merge }
-
-means-more : (c : Certificate) (budget : ℕ) → c .budget ≤ budget → (v : Verdict) → Given c v → ((n : ℕ) → v ≡ stopped n → ⊥) → Given (rebudget c budget) v
-unfolding Given Means
-means-more c budget l (malformed number line) m h = m
-means-more c budget l (unsuitable class bad) m h = m
-means-more c budget l (critical rule xs class n) (s, f, k) h = (s, f, omega arith)
-means-more c budget l (accepted n) (s, a, k, e) h = (s, a, omega arith, e)
-means-more c budget l (stopped n) m h = absurd (h n refl)
-
--- With all else equal, a larger budget within its range changes no verdict but stopped.
-pub larger-budget : (c : Certificate) → WellFormed c → (budget : ℕ) → c .budget ≤ budget → WellFormed (rebudget c budget) → ((n : ℕ) → verdict c ≡ stopped n → ⊥) → verdict (rebudget c budget) ≡ verdict c
-larger-budget c w budget l u h = verdict-exact (rebudget c budget) u (verdict c) .1 (means-more c budget l (verdict c) (verdict-exact c w (verdict c) .0 refl) h)
+pub within-budget : (file : List ℕ) (c : Certificate) → readFile file ≡ holds c → examined (verdictOf file) ≤ c .budget
+within-budget file c e = means-within c (verdictOf file) (given-exactly file c e (verdictOf file) .0 refl)
 
 -- The row of the table for accepted, written out.
 pub accepted-exactly : (file : List ℕ) (c : Certificate) → readFile file ≡ holds c → (n : ℕ) → (verdictOf file ≡ accepted n) ↔ (Suitable (merged (c .merge) (c .A)) (c .B) × Acritical (merged (c .merge) (c .A)) (c .rules) × (total (classes (c .merge)) (c .rules) ≤ c .budget) × (n ≡ total (classes (c .merge)) (c .rules)))
@@ -75,11 +86,12 @@ unfolding Given Means merged
 accepted-exactly file c e n = given-exactly file c e (accepted n)
 
 -- The count of a critical verdict: the earlier rules' powers of k, and the substitution's place in its rule, from 1.
-pub critical-count : (c : Certificate) → WellFormed c → (rule : ℕ) (xs : List ℕ) (class n : ℕ) → verdict c ≡ critical rule xs class n → n ≡ total (classes (c .merge)) (take rule (c .rules)) + suc (placeOf (classes (c .merge)) xs)
-unfolding Given Means merged
-critical-count c w rule xs class n e =
-    let (s, f, l) = verdict-exact c w (critical rule xs class n) .0 e in
-    let p = cases-place (classes (c .merge)) 0 (c .rules) (f .before) (f .this) (f .rest) (f .split) in
-    let same : rule ≡ p .earlier = omega (arith, f .number, p .number) in
-    let place : placeOf (classes (c .merge)) (f .this .σ) ≡ placeOf (classes (c .merge)) xs = ap (placeOf (classes (c .merge))) (f .classes) in
-    rw same (omega (arith, f .place, p .place))
+pub critical-count : (file : List ℕ) (c : Certificate) → readFile file ≡ holds c → (rule : ℕ) (xs : List ℕ) (class n : ℕ) → verdictOf file ≡ critical rule xs class n → n ≡ total (classes (c .merge)) (take rule (c .rules)) + suc (placeOf (classes (c .merge)) xs)
+unfolding Given Means merged place
+critical-count file c e rule xs class n v =
+    let (s, f, l) = given-exactly file c e (critical rule xs class n) .0 v in
+    f .count ∙ ap₂ (λ i σ. total (classes (c .merge)) (take i (c .rules)) + suc (placeOf (classes (c .merge)) σ)) (f .number) (f .classes)
+
+-- The total's largest value is 32 x 1,048,576 = 33,554,432, the largest budget.
+pub total-bound : (file : List ℕ) (c : Certificate) → readFile file ≡ holds c → total (classes (c .merge)) (c .rules) ≤ mostBudget
+total-bound file c e = total-most c (admitted file c e)

@@ -1,40 +1,40 @@
--- Answers determine verdicts: two verdicts with small numbers and the same answer are the same.
+-- Answers determine verdicts: two verdicts with the same answer are the same.
 use mathlib.Core.Path.{_≡_, refl, sym, ap, _∙_}
 use mathlib.Core.Bool.{Bool, true, false, false≢true}
 use mathlib.Core.Logic.{inl, inr}
-use mathlib.Core.List.{List, [], _∷_, _++_, List·Memᴰ, List·Memᴰ·head, List·Memᴰ·cases-cons, append-assoc, append-nil}
+use mathlib.Core.List.{List, [], _∷_, _++_, map, List·Memᴰ·head, List·Memᴰ·cases-cons, append-assoc, append-nil}
 use mathlib.Core.Option.{Option, none, some}
-use Prim.Native.Nat.{ℕ, _^_, _<_}
+use Prim.Native.Nat.{ℕ}
 use Prim.Native.String.{String}
 use native.Mathlib.Omega.{arith}
 use borrow.Author.Tests.{ne-eqb, eqb-false}
 use lib.Dec.{eqb}
 use lib.ListN.{getD}
 use Rattle.paper.specs.Bytes.{bytes, LF}
-use Rattle.paper.specs.Limits.{mostDigits}
-use Rattle.paper.specs.Judged.{Judged, says, _>>=_}
-use Rattle.paper.specs.Fields.{number}
-use Rattle.paper.specs.Lines.{Line, takeLine}
-use Rattle.paper.specs.Tables.{numbersOf}
-use Rattle.paper.specs.Verdict.{Verdict, malformed, unsuitable, critical, accepted, stopped}
-use Rattle.paper.specs.Answer.{decimal, decimals, decimalIf, dash, lineWith, eight, answer}
-use Rattle.paper.proofs.Lines.{Without, take-exact}
+use Rattle.paper.specs.Checked.{Checked, says}
+use Rattle.paper.specs.Fields.{fromDigits, entries}
+use Rattle.paper.specs.Lines.{Without, Said, takeLine}
+use Rattle.paper.specs.Meaning.{malformed, unsuitable, critical, accepted, stopped, Verdict}
+use Rattle.paper.specs.Computed.{verdictOf}
+use Rattle.paper.specs.Answer.{decimal, decimals, decimalIf, dash, lineWith, eight, answer, answerOf}
+use Rattle.paper.proofs.Lines.{take-exact}
 use Rattle.paper.proofs.Smallest.{decided}
-use Rattle.paper.proofs.Numbers.{number-decimal}
-use Rattle.paper.proofs.Complete.{decimal-plain, decimals-LF, numbersOf-complete}
+use Rattle.paper.proofs.Numbers.{decimal-reads}
+use Rattle.paper.proofs.Spelling.{joined-decimals}
+use Rattle.paper.proofs.Complete.{decimal-plain, decimals-cons, entries-of, decimals-LF}
 
 -- A line is cut off in one way.
-taken : (key : String) (v r : List ℕ) → Without LF v → takeLine key (lineWith key v ++ r) ≡ says (record { value = v; rest = r })
+taken : (key : String) (v r : List ℕ) → Without LF v → takeLine key (lineWith key v ++ r) ≡ says (record { what = v; rest = r })
 unfolding lineWith
 taken key v r w =
     let whole : bytes key ++ bytes "=" ++ (v ++ (LF ∷ r)) ≡ (bytes key ++ (bytes "=" ++ (v ++ (LF ∷ [])))) ++ r = simp append-assoc in
-    take-exact key _ (record { value = v; rest = r }) .1 (whole, w)
+    take-exact key _ (record { what = v; rest = r }) .1 (whole, w)
 
-cut : (key : String) (v w r s : List ℕ) → Without LF v → Without LF w → lineWith key v ++ r ≡ lineWith key w ++ s → (v ≡ w) × (r ≡ s)
+pub cut : (key : String) (v w r s : List ℕ) → Without LF v → Without LF w → lineWith key v ++ r ≡ lineWith key w ++ s → (v ≡ w) × (r ≡ s)
 cut key v w r s p q e =
-    let same : _≡_ {A = Judged Line} (says (record { value = v; rest = r })) (says (record { value = w; rest = s })) = sym (taken key v r p) ∙ ap (takeLine key) e ∙ taken key w s q in
-    let l : _≡_ {A = Line} (record { value = v; rest = r }) (record { value = w; rest = s }) = cc in
-    (ap (λ (l : Line). l .value) l, ap (λ (l : Line). l .rest) l)
+    let same : _≡_ {A = Checked (Said (List ℕ))} (says (record { what = v; rest = r })) (says (record { what = w; rest = s })) = sym (taken key v r p) ∙ ap (takeLine key) e ∙ taken key w s q in
+    let l : _≡_ {A = (Said (List ℕ))} (record { what = v; rest = r }) (record { what = w; rest = s }) = cc in
+    (ap (λ (l : (Said (List ℕ))). l .what) l, ap (λ (l : (Said (List ℕ))). l .rest) l)
 
 -- The values of the eight lines.
 record Values : Type 0 where
@@ -88,7 +88,7 @@ without (b ∷ bs) e m = elim (decided (eqb b LF)) [
   | inr h ↦ elim (List·Memᴰ·cases-cons m) [ inl s ↦ eqb-false b LF h (sym s) | inr k ↦ without bs (rw (h, clear) at e) k ]
 ]
 
-decimal-LF : (n : ℕ) → Without LF (decimal n)
+pub decimal-LF : (n : ℕ) → Without LF (decimal n)
 decimal-LF n = decimal-plain n LF (omega arith)
 
 dash-LF : Without LF dash
@@ -124,55 +124,72 @@ plain-values (critical rule xs q n) = record { word = without (bytes "critical")
 plain-values (accepted n) = record { word = without (bytes "accepted") refl; refusal = dash-LF; line = dash-LF; rule = dash-LF; x = dash-LF; class = dash-LF; bad = dash-LF; examined = decimal-LF n }
 plain-values (stopped n) = record { word = without (bytes "stopped") refl; refusal = dash-LF; line = dash-LF; rule = dash-LF; x = dash-LF; class = dash-LF; bad = dash-LF; examined = decimal-LF n }
 
--- The verdict read back from the values: the word's first letter tells which.
-unfoldable lineBack : List ℕ → Judged (Option ℕ)
-lineBack bs = elim (eqb (getD bs 0 0) 45) [ true ↦ says none | false ↦ number bs >>= (λ n. says (some n)) ]
+-- A list of numbers read back.
+unfoldable listBack : List ℕ → List ℕ
+listBack [] = []
+listBack (b ∷ bs) = map (fromDigits 0) (entries (b ∷ bs))
 
-unfoldable back : Values → Judged Verdict
+each-back : (ns : List ℕ) → map (fromDigits 0) (map decimal ns) ≡ ns
+each-back [] = refl
+each-back (n ∷ ns) = rw (decimal-reads n, each-back ns)
+
+list-back : (ns : List ℕ) → listBack (decimals ns) ≡ ns
+unfolding listBack decimals
+list-back [] = refl
+list-back (n ∷ ns) =
+    let (b, bs, e) = decimals-cons n ns in
+    let parted : entries (b ∷ bs) ≡ map decimal (n ∷ ns) = ap entries (sym e ∙ sym (joined-decimals (n ∷ ns))) ∙ entries-of decimal decimal-plain n ns in
+    ap listBack e ∙ (ap (map (fromDigits 0)) parted ∙ each-back (n ∷ ns))
+
+-- A line read back: a number does not begin with a dash.
+unfoldable lineBack : List ℕ → Option ℕ
+lineBack bs = elim (eqb (getD bs 0 0) 45) [ true ↦ none | false ↦ some (fromDigits 0 bs) ]
+
+no-dash : (bs : List ℕ) → Without 45 bs → eqb (getD bs 0 0) 45 ≡ false
+no-dash [] w = refl
+no-dash (b ∷ bs) w = ne-eqb b 45 (λ e. w (List·Memᴰ·head (sym e)))
+
+line-back : (o : Option ℕ) → lineBack (decimalIf o) ≡ o
+unfolding lineBack decimalIf dash bytes
+line-back none = refl
+line-back (some l) = rw (no-dash (decimal l) (decimal-plain l 45 (omega arith)), lineBack) (ap some (decimal-reads l))
+
+-- The verdict read back from the values: the word's first letter tells which.
+unfoldable back : Values → Verdict
 back a = elim (eqb (getD (a .word) 0 0) 97) [
-  | true ↦ number (a .examined) >>= (λ n. says (accepted n))
+  | true ↦ accepted (fromDigits 0 (a .examined))
   | false ↦ elim (eqb (getD (a .word) 0 0) 115) [
-    | true ↦ number (a .examined) >>= (λ n. says (stopped n))
+    | true ↦ stopped (fromDigits 0 (a .examined))
     | false ↦ elim (eqb (getD (a .word) 0 0) 117) [
-      | true ↦ number (a .class) >>= (λ q. number (a .bad) >>= (λ p. says (unsuitable q p)))
+      | true ↦ unsuitable (fromDigits 0 (a .class)) (fromDigits 0 (a .bad))
       | false ↦ elim (eqb (getD (a .word) 0 0) 99) [
-        | true ↦ number (a .rule) >>= (λ u. numbersOf true (a .x) >>= (λ xs. number (a .class) >>= (λ q. number (a .examined) >>= (λ n. says (critical u xs q n)))))
-        | false ↦ number (a .refusal) >>= (λ n. lineBack (a .line) >>= (λ l. says (malformed n l)))
+        | true ↦ critical (fromDigits 0 (a .rule)) (listBack (a .x)) (fromDigits 0 (a .class)) (fromDigits 0 (a .examined))
+        | false ↦ malformed (fromDigits 0 (a .refusal)) (lineBack (a .line))
       ]
     ]
   ]
 ]
 
--- Every number has as many digits as a file may have.
-unfoldable pub Small : Verdict → Type 0
-Small (malformed n none) = n < 10 ^ mostDigits
-Small (malformed n (some l)) = (n < 10 ^ mostDigits) × (l < 10 ^ mostDigits)
-Small (unsuitable q p) = (q < 10 ^ mostDigits) × (p < 10 ^ mostDigits)
-Small (critical rule xs q n) = (rule < 10 ^ mostDigits) × ((x : ℕ) → List·Memᴰ x xs → x < 10 ^ mostDigits) × (q < 10 ^ mostDigits) × (n < 10 ^ mostDigits)
-Small (accepted n) = n < 10 ^ mostDigits
-Small (stopped n) = n < 10 ^ mostDigits
-
--- A number does not begin with a dash.
-no-dash : (bs : List ℕ) → Without 45 bs → eqb (getD bs 0 0) 45 ≡ false
-no-dash [] w = refl
-no-dash (b ∷ bs) w = ne-eqb b 45 (λ e. w (List·Memᴰ·head (sym e)))
-
-line-back : (l : ℕ) → l < 10 ^ mostDigits → lineBack (decimal l) ≡ says (some l)
-unfolding lineBack _>>=_
-line-back l h = rw (no-dash (decimal l) (decimal-plain l 45 (omega arith)), lineBack, number-decimal l h)
-
-values-back : (v : Verdict) → Small v → back (values v) ≡ says v
-unfolding Small back values bytes _>>=_ lineBack decimalIf dash
-values-back (malformed n none) s = rw (number-decimal n s)
-values-back (malformed n (some l)) (s, t) = rw (number-decimal n s, line-back l t)
-values-back (unsuitable q p) (s, t) = rw (number-decimal q s, number-decimal p t)
-values-back (critical rule xs q n) (a, b, c, d) = rw (number-decimal rule a, numbersOf-complete true xs (λ e. absurd (false≢true (sym e))) b, number-decimal q c, number-decimal n d)
-values-back (accepted n) s = rw (number-decimal n s)
-values-back (stopped n) s = rw (number-decimal n s)
+values-back : (v : Verdict) → back (values v) ≡ v
+unfolding back values bytes
+values-back (malformed n l) = rw (decimal-reads n, line-back l)
+values-back (unsuitable q p) = rw (decimal-reads q, decimal-reads p)
+values-back (critical rule xs q n) = rw (decimal-reads rule, list-back xs, decimal-reads q, decimal-reads n)
+values-back (accepted n) = rw (decimal-reads n)
+values-back (stopped n) = rw (decimal-reads n)
 
 -- One answer, one verdict.
-pub distinct : (v w : Verdict) → Small v → Small w → answer v ≡ answer w → v ≡ w
-distinct v w s t e =
+pub distinct : (v w : Verdict) → answer v ≡ answer w → v ≡ w
+distinct v w e =
     let same = same-values (values v) (values w) (plain-values v) (plain-values w) (sym (answer-text v) ∙ e ∙ answer-text w) in
-    let said : _≡_ {A = Judged Verdict} (says v) (says w) = sym (values-back v s) ∙ ap back same ∙ values-back w t in
-    cc
+    sym (values-back v) ∙ ap back same ∙ values-back w
+
+-- A file's answer is the answer to a verdict only where it is the file's verdict.
+pub answer-tells : (file : List ℕ) (v : Verdict) → answerOf file ≡ answer v → verdictOf file ≡ v
+unfolding answerOf
+answer-tells file v e = distinct (verdictOf file) v e
+
+-- Two files with the same answer have the same verdict.
+pub same-answer : (file other : List ℕ) → answerOf file ≡ answerOf other → verdictOf file ≡ verdictOf other
+unfolding answerOf
+same-answer file other e = distinct (verdictOf file) (verdictOf other) e

@@ -1,159 +1,187 @@
--- A number that the answer writes is read back as that number.
-use mathlib.Core.Path.{_≡_, refl, ap, _∙_}
+-- A number in decimal: digits that read as the number, none of them a leading zero, and no other bytes do.
+use mathlib.Core.Path.{_≡_, refl, sym, ap, _∙_}
 use mathlib.Core.Logic.{inl, inr, _↔_}
-use mathlib.Core.Bool.{Bool, true, false, _&&_, not, false≢true, and-eq-true-iff}
-use mathlib.Core.List.{List, [], _∷_, _++_, append-nil}
+use mathlib.Core.Bool.{Bool, true, _&&_, not, false≢true, and-eq-true-iff}
+use mathlib.Core.List.{List, [], _∷_, _++_, append-assoc, append-nil}
 use Prim.Native.Nat.{ℕ, zero, suc, _+_, _*_, _-_, _^_, _/_, _%_, _≤_, _<_}
 use native.Mathlib.Omega.{arith}
-use native.Mathlib.Nat.{pow-zero, pow-succ', pow-le-pow-right, zero-add, mul-assoc, mul-le-mul-right}
-use lib.Dec.{T, eqb, leb, ltb, le→leb}
-use lib.ListN.{length}
-use borrow.Author.Tests.{leb-true, lt-ltb, le-ltb, eqb-false, not-true, ltb-true, ltb-false}
+use native.Mathlib.Decide.{decLe}
+use native.Mathlib.Nat.{pow-zero, pow-succ', pow-le-pow-right, mul-assoc, mul-le-mul-right}
+use lib.Dec.{eqb, leb, ltb}
+use lib.ListN.{length, length-append}
+use borrow.Author.Tests.{le-leb, leb-true, lt-ltb, le-ltb, ne-eqb, eqb-false, not-true, ltb-false}
 use Rattle.theory.proofs.Tests.{equal-iff}
 use Rattle.paper.specs.Bytes.{digit0}
 use Rattle.paper.specs.Limits.{mostDigits}
-use Rattle.paper.specs.Judged.{says, _>>_, _unless_}
+use Rattle.paper.specs.Checked.{says, _>>_, _unless_}
 use Rattle.paper.specs.Fields.{all, digit, isNumber, fromDigits, number}
 use Rattle.paper.specs.Answer.{digits, decimal}
 use Rattle.paper.proofs.Smallest.{decided}
-use Rattle.paper.proofs.Judged.{passed, spoken}
-use Rattle.paper.proofs.Bounds.{digits-length}
+use Rattle.paper.proofs.Checked.{passed, spoken}
 
-T-true : (b : Bool) → T b → b ≡ true
-T-true true t = refl
-T-true false t = absurd t
-
-digit-true : (d : ℕ) → d < 10 → digit (digit0 + d) ≡ true
-unfolding digit
-digit-true d h = and-eq-true-iff (leb digit0 (digit0 + d)) (leb (digit0 + d) (digit0 + 9)) .1 (T-true (leb digit0 (digit0 + d)) (le→leb digit0 (digit0 + d) (omega arith)), T-true (leb (digit0 + d) (digit0 + 9)) (le→leb (digit0 + d) (digit0 + 9) (omega arith)))
-
-tenth : (k n : ℕ) → n < 10 ^ suc (suc k) → n / 10 < 10 ^ suc k
-tenth k n h = let p = pow-succ' 10 (suc k) in omega arith
-
--- The digits of n read as n.
-read-digits : (k n : ℕ) (bs : List ℕ) → n < 10 ^ suc k → fromDigits 0 (digits k n bs) ≡ fromDigits n bs
-unfolding digits fromDigits
-read-digits zero n bs h = ap (λ m. fromDigits m bs) (omega arith)
-read-digits (suc k) n bs h = elim (decided (ltb n 10)) [
-  | inl e ↦ rw (e, digits) (ap (λ m. fromDigits m bs) (omega arith))
-  | inr e ↦ rw (e, digits) (read-digits k (n / 10) ((digit0 + n % 10) ∷ bs) (tenth k n h) ∙ ap (λ m. fromDigits m bs) (omega arith))
-]
-
--- They are digits, and the first is not 0 unless n is.
-record Written (bs : List ℕ) : Type 0 where
-  lead : ℕ
-  rest : List ℕ
-  is : bs ≡ lead ∷ rest
-  nonzero : eqb lead digit0 ≡ false
-
-apart : (d : ℕ) → 0 < d → eqb (digit0 + d) digit0 ≡ false
-apart d h = elim (decided (eqb (digit0 + d) digit0)) [ inl e ↦ absurd (omega (arith, equal-iff (digit0 + d) digit0 .0 e)) | inr e ↦ e ]
-
-written : (k n : ℕ) (bs : List ℕ) → 0 < n → n < 10 ^ suc k → Written (digits k n bs)
+one-digit : (k n : ℕ) → n < 10 → digits k n ≡ (digit0 + n) ∷ []
 unfolding digits
-written zero n bs l h = record { lead = digit0 + n % 10; rest = bs; is = refl; nonzero = apart (n % 10) (omega arith) }
-written (suc k) n bs l h = elim (decided (ltb n 10)) [
-  | inl e ↦ rw (e, digits) (record { lead = digit0 + n; rest = bs; is = refl; nonzero = apart n l })
-  | inr e ↦ rw (e, digits) (written k (n / 10) ((digit0 + n % 10) ∷ bs) (omega (arith, ltb-false n 10 e)) (tenth k n h))
+one-digit zero n h = refl
+one-digit (suc k) n h = rw (lt-ltb n 10 h, digits)
+
+-- A count that is large enough matters no more.
+enough : (k m n : ℕ) → n ≤ k → n ≤ m → digits k n ≡ digits m n
+unfolding digits
+enough zero m n h i = sym (one-digit m n (omega arith))
+enough (suc k) zero n h i = one-digit (suc k) n (omega arith)
+enough (suc k) (suc m) n h i = elim (decided (ltb n 10)) [
+  | inl e ↦ rw (e, digits)
+  | inr e ↦ let large = ltb-false n 10 e in rw (e, digits, enough k m (n / 10) (omega arith) (omega arith))
 ]
 
-pub all-digits : (k n : ℕ) (bs : List ℕ) → all digit bs ≡ true → all digit (digits k n bs) ≡ true
-unfolding digits all
-all-digits zero n bs h = and-eq-true-iff _ _ .1 (digit-true (n % 10) (omega arith), h)
-all-digits (suc k) n bs h = elim (decided (ltb n 10)) [
-  | inl e ↦ rw (e, digits) (and-eq-true-iff _ _ .1 (digit-true n (omega (arith, ltb-true n 10 e)), h))
-  | inr e ↦ rw (e, digits) (all-digits k (n / 10) ((digit0 + n % 10) ∷ bs) (and-eq-true-iff _ _ .1 (digit-true (n % 10) (omega arith), h)))
-]
+-- The decimal of a number is its only digit, ..
+pub decimal-one : (n : ℕ) → n < 10 → decimal n ≡ (digit0 + n) ∷ []
+unfolding decimal
+decimal-one n h = one-digit _ n h
 
-is-number : (bs : List ℕ) → Written bs → all digit bs ≡ true → length bs ≤ mostDigits → isNumber bs ≡ true
-unfolding isNumber all
-is-number [] w h l = let e = w .is in let z : _≡_ {A = ℕ} 0 1 = cc in absurd (omega arith)
-is-number (b ∷ []) w h l = and-eq-true-iff (digit b) true .0 h .0
-is-number (b ∷ c ∷ bs) w h l =
-    let e = w .is in
-    let same : w .lead ≡ b = cc in
-    and-eq-true-iff _ _ .1 (and-eq-true-iff _ _ .1 (ap not (rw same at (w .nonzero)), h), T-true _ (le→leb (length (b ∷ c ∷ bs)) mostDigits l))
+-- .. or the decimal of its tenth and then its last digit.
+pub decimal-more : (n : ℕ) → 10 ≤ n → decimal n ≡ decimal (n / 10) ++ ((digit0 + n % 10) ∷ [])
+unfolding decimal digits
+decimal-more zero h = absurd (omega arith)
+decimal-more (suc n) h = rw (le-ltb (suc n) 10 h, digits, enough n (suc n / 10) (suc n / 10) (omega arith) (omega arith))
 
--- Numbers of at most that many digits come back as they were.
-pub number-decimal : (n : ℕ) → n < 10 ^ mostDigits → number (decimal n) ≡ says n
-unfolding number decimal digits fromDigits isNumber digit all _>>_ _unless_
-number-decimal zero h = refl
-number-decimal (suc n) h =
-    let is = is-number (digits (mostDigits - 1) (suc n) []) (written (mostDigits - 1) (suc n) [] (omega arith) (omega arith)) (all-digits (mostDigits - 1) (suc n) [] refl) (omega (arith, digits-length (mostDigits - 1) (suc n) [])) in
-    rw is (ap says (read-digits (mostDigits - 1) (suc n) [] (omega arith)))
+-- What holds of one digit, and of a number where it holds of its tenth, holds of every number.
+module _ {P : ℕ → Type 0} (one : (n : ℕ) → n < 10 → P n) (more : (n : ℕ) → 10 ≤ n → P (n / 10) → P n) where
+  below : (k n : ℕ) → n ≤ k → P n
+  below zero n h = one n (omega arith)
+  below (suc k) n h = elim (decLe 10 n) [ yes g ↦ more n g (below k (n / 10) (omega arith)) | no g ↦ one n (omega arith) ]
+
+  by-tens : (n : ℕ) → P n
+  by-tens n = below n n (omega arith)
 
 -- The facts behind a digit.
 pub digit-facts : (b : ℕ) → digit b ≡ true → (digit0 ≤ b) × (b ≤ digit0 + 9)
 unfolding digit
 digit-facts b e = let (l, h) = and-eq-true-iff (leb digit0 b) (leb b (digit0 + 9)) .0 e in (leb-true digit0 b l, leb-true b (digit0 + 9) h)
 
--- A digit more behind m: it is the last digit of what they make.
-last-digit : (k m b : ℕ) (bs : List ℕ) → 0 < m → digit b ≡ true → digits (suc k) (10 * m + (b - digit0)) bs ≡ digits k m (b ∷ bs)
-unfolding digits
-last-digit k m b bs l h =
-    let (low, high) = digit-facts b h in
-    let large : ltb (10 * m + (b - digit0)) 10 ≡ false = le-ltb (10 * m + (b - digit0)) 10 (omega arith) in
-    let front : (10 * m + (b - digit0)) / 10 ≡ m = omega arith in
-    let back : digit0 + (10 * m + (b - digit0)) % 10 ≡ b = omega arith in
-    rw (large, digits, front, back)
+digit-true : (d : ℕ) → d < 10 → digit (digit0 + d) ≡ true
+unfolding digit
+digit-true d h = and-eq-true-iff (leb digit0 (digit0 + d)) (leb (digit0 + d) (digit0 + 9)) .1 (le-leb digit0 (digit0 + d) (omega arith), le-leb (digit0 + d) (digit0 + 9) (omega arith))
 
--- Digits behind a number that is not 0 are written back as they were.
-write-digits : (bs : List ℕ) (k m : ℕ) (rest : List ℕ) → 0 < m → all digit bs ≡ true → digits (length bs + k) (fromDigits m bs) rest ≡ digits k m (bs ++ rest)
+all-append : {Y : Type 0} (test : Y → Bool) (xs ys : List Y) → all xs test ≡ true → all ys test ≡ true → all (xs ++ ys) test ≡ true
+unfolding all
+all-append test [] ys h g = g
+all-append test (x ∷ xs) ys h g =
+    let (a, b) = and-eq-true-iff (test x) (all xs test) .0 h in
+    and-eq-true-iff (test x) (all (xs ++ ys) test) .1 (a, all-append test xs ys b g)
+
+-- Every byte of a decimal is a digit, ..
+pub decimal-digits : (n : ℕ) → all (decimal n) digit ≡ true
+unfolding all
+decimal-digits = by-tens {P = λ n. all (decimal n) digit ≡ true}
+    (λ n h. rw (decimal-one n h) (and-eq-true-iff (digit (digit0 + n)) true .1 (digit-true n h, refl)))
+    (λ n h i. rw (decimal-more n h) (all-append digit (decimal (n / 10)) _ i (and-eq-true-iff (digit (digit0 + n % 10)) true .1 (digit-true (n % 10) (omega arith), refl))))
+
+from-append : (n : ℕ) (bs cs : List ℕ) → fromDigits n (bs ++ cs) ≡ fromDigits (fromDigits n bs) cs
+unfolding fromDigits
+from-append n [] cs = refl
+from-append n (b ∷ bs) cs = from-append (10 * n + (b - digit0)) bs cs
+
+-- .. read back they are the number, ..
+pub decimal-reads : (n : ℕ) → fromDigits 0 (decimal n) ≡ n
+unfolding fromDigits
+decimal-reads = by-tens {P = λ n. fromDigits 0 (decimal n) ≡ n} (λ n h. rw (decimal-one n h) (omega arith)) (λ n h i. rw (decimal-more n h, from-append, i) (omega arith))
+
+-- The first digit of a decimal is 0 only where the number is.
+pub record First (n : ℕ) : Type 0 where
+  pub first : ℕ
+  pub rest : List ℕ
+  pub is : decimal n ≡ first ∷ rest
+  pub zero-alone : first ≡ digit0 → n ≡ 0
+
+pub decimal-first : (n : ℕ) → First n
+decimal-first = by-tens {P = First}
+    (λ n h. record { first = digit0 + n; rest = []; is = decimal-one n h; zero-alone = λ e. omega arith })
+    (λ n h i. record { first = i .first; rest = i .rest ++ ((digit0 + n % 10) ∷ []); is = decimal-more n h ∙ ap (λ ds. ds ++ ((digit0 + n % 10) ∷ [])) (i .is); zero-alone = λ e. absurd (omega (arith, i .zero-alone e)) })
+
+-- .. and none is a leading zero.
+pub no-leading-zero : (n b : ℕ) (bs : List ℕ) → decimal n ≡ digit0 ∷ b ∷ bs → ⊥
+no-leading-zero n b bs e =
+    let f = decimal-first n in
+    let is = f .is in
+    let zero-first : f .first ≡ digit0 = cc in
+    let zero-only = decimal-one n (omega (arith, f .zero-alone zero-first)) in
+    let z : _≡_ {A = ℕ} 0 1 = cc in
+    omega arith
+
+-- Digits behind a number that is not 0 are written behind its decimal.
+write-digits : (bs : List ℕ) (m : ℕ) → 0 < m → all bs digit ≡ true → decimal (fromDigits m bs) ≡ decimal m ++ bs
 unfolding all fromDigits
-write-digits [] k m rest l h = rw zero-add
-write-digits (b ∷ bs) k m rest l h =
-    let (d, ds) = and-eq-true-iff (digit b) (all digit bs) .0 h in
-    let fuel : suc (length bs) + k ≡ length bs + suc k = omega arith in
-    rw fuel (write-digits bs (suc k) (10 * m + (b - digit0)) rest (omega arith) ds ∙ last-digit k m b (bs ++ rest) l d)
+write-digits [] m l h = sym (append-nil (decimal m))
+write-digits (b ∷ bs) m l h =
+    let (d, ds) = and-eq-true-iff (digit b) (all bs digit) .0 h in
+    let (low, high) = digit-facts b d in
+    let front : (10 * m + (b - digit0)) / 10 ≡ m = omega arith in
+    let last : digit0 + (10 * m + (b - digit0)) % 10 ≡ b = omega arith in
+    write-digits bs (10 * m + (b - digit0)) (omega arith) ds ∙ rw (decimal-more (10 * m + (b - digit0)) (omega arith), front, last) (append-assoc (decimal m) (b ∷ []) bs)
 
--- A first digit.
-first-digit : (k m : ℕ) (bs : List ℕ) → m < 10 → digits k m bs ≡ (digit0 + m) ∷ bs
-unfolding digits
-first-digit zero m bs h = ap (λ d. d ∷ bs) (omega arith)
-first-digit (suc k) m bs h = rw (lt-ltb m 10 h, digits)
+-- Digits without a leading zero are the decimal of the number that they read as.
+pub decimal-only : (b : ℕ) (bs : List ℕ) → all (b ∷ bs) digit ≡ true → (b ≡ digit0 → bs ≡ []) → decimal (fromDigits 0 (b ∷ bs)) ≡ b ∷ bs
+unfolding all fromDigits
+decimal-only b bs h z =
+    let (d, ds) = and-eq-true-iff (digit b) (all bs digit) .0 h in
+    let (low, high) = digit-facts b d in
+    let first : decimal (10 * 0 + (b - digit0)) ≡ b ∷ [] = decimal-one (10 * 0 + (b - digit0)) (omega arith) ∙ ap (λ d. d ∷ []) (omega arith) in
+    elim (decided (eqb b digit0)) [
+      | inl e ↦ rw (z (equal-iff b digit0 .0 e)) first
+      | inr e ↦ write-digits bs (10 * 0 + (b - digit0)) (omega (arith, eqb-false b digit0 e)) ds ∙ ap (λ ds. ds ++ bs) first
+    ]
+
+-- A number below 10 ^ (k + 1) has at most k + 1 digits.
+pub decimal-length : (k n : ℕ) → n < 10 ^ suc k → length (decimal n) ≤ suc k
+decimal-length zero n h = rw (decimal-one n (omega arith)) (omega arith)
+decimal-length (suc k) n h = elim (decLe 10 n) [
+  | yes g ↦ let p = pow-succ' 10 (suc k) in rw (decimal-more n g) (omega (arith, length-append (decimal (n / 10)) ((digit0 + n % 10) ∷ []), decimal-length k (n / 10) (omega arith)))
+  | no g ↦ rw (decimal-one n (omega arith)) (omega arith)
+]
+
+is-number : (n : ℕ) (bs : List ℕ) → decimal n ≡ bs → length bs ≤ mostDigits → isNumber bs ≡ true
+unfolding isNumber all
+is-number n [] e l = let f = decimal-first n .is in let z : _≡_ {A = ℕ} 0 1 = cc in absurd (omega arith)
+is-number n (b ∷ []) e l = and-eq-true-iff (digit b) true .0 (sym (ap (λ l. all l digit) e) ∙ decimal-digits n) .0
+is-number n (b ∷ c ∷ bs) e l =
+    let nonzero = ne-eqb b digit0 (λ z. no-leading-zero n c bs (e ∙ ap (λ d. d ∷ c ∷ bs) z)) in
+    and-eq-true-iff _ _ .1 (and-eq-true-iff _ _ .1 (ap not nonzero, sym (ap (λ l. all l digit) e) ∙ decimal-digits n), le-leb (length (b ∷ c ∷ bs)) mostDigits l)
+
+-- Numbers of at most that many digits come back as they were.
+pub number-decimal : (n : ℕ) → n < 10 ^ mostDigits → number (decimal n) ≡ says n
+unfolding number _>>_ _unless_
+number-decimal n h = rw (is-number n (decimal n) refl (decimal-length (mostDigits - 1) n (omega arith))) (ap says (decimal-reads n))
 
 -- What more digits behind m can make.
-digits-bound : (bs : List ℕ) (m : ℕ) → all digit bs ≡ true → fromDigits m bs < suc m * 10 ^ length bs
+digits-bound : (bs : List ℕ) (m : ℕ) → all bs digit ≡ true → fromDigits m bs < suc m * 10 ^ length bs
 unfolding all fromDigits
 digits-bound [] m h = rw (pow-zero 10) (omega arith)
 digits-bound (b ∷ bs) m h =
-    let (d, ds) = and-eq-true-iff (digit b) (all digit bs) .0 h in
+    let (d, ds) = and-eq-true-iff (digit b) (all bs digit) .0 h in
     let (low, high) = digit-facts b d in
     let more = mul-le-mul-right {m = suc (10 * m + (b - digit0))} {n = suc m * 10} (10 ^ length bs) (omega arith) in
     rw (pow-succ', ← mul-assoc) (omega (arith, more, digits-bound bs (10 * m + (b - digit0)) ds))
 
 -- What a number must be to be one.
 record IsNumber (bs : List ℕ) : Type 0 where
-  are-digits : all digit bs ≡ true
+  are-digits : all bs digit ≡ true
   few : length bs ≤ mostDigits
   back : decimal (fromDigits 0 bs) ≡ bs
 
 number-facts : (bs : List ℕ) → isNumber bs ≡ true → IsNumber bs
-unfolding isNumber all decimal fromDigits
+unfolding isNumber all
 number-facts [] e = absurd (false≢true e)
-number-facts (b ∷ []) e =
-    let (low, high) = digit-facts b e in
-    record { are-digits = and-eq-true-iff (digit b) true .1 (e, refl); few = omega arith; back = first-digit (mostDigits - 1) (10 * 0 + (b - digit0)) [] (omega arith) ∙ ap (λ d. d ∷ []) (omega arith) }
+number-facts (b ∷ []) e = let ds = and-eq-true-iff (digit b) true .1 (e, refl) in record { are-digits = ds; few = omega arith; back = decimal-only b [] ds (λ z. refl) }
 number-facts (b ∷ c ∷ cs) e =
-    let (f, l) = and-eq-true-iff (not (eqb b digit0) && all digit (b ∷ c ∷ cs)) (leb (length (b ∷ c ∷ cs)) mostDigits) .0 e in
-    let (z, ds) = and-eq-true-iff (not (eqb b digit0)) (all digit (b ∷ c ∷ cs)) .0 f in
-    let (d, rest) = and-eq-true-iff (digit b) (all digit (c ∷ cs)) .0 ds in
-    let (low, high) = digit-facts b d in
-    let count = leb-true (length (b ∷ c ∷ cs)) mostDigits l in
-    let nonzero = eqb-false b digit0 (not-true (eqb b digit0) z) in
-    let m : ℕ = 10 * 0 + (b - digit0) in
-    let k : ℕ = mostDigits - 1 - length (c ∷ cs) in
-    let positive : 0 < m = omega arith in
-    record {
-      are-digits = ds;
-      few = count;
-      back = ap (λ k. digits k (fromDigits m (c ∷ cs)) []) (omega arith) ∙ (write-digits (c ∷ cs) k m [] positive rest ∙ (first-digit k m ((c ∷ cs) ++ []) (omega arith) ∙ (ap (λ d. d ∷ ((c ∷ cs) ++ [])) (omega arith) ∙ ap (λ bs. b ∷ bs) (append-nil (c ∷ cs)))));
-    }
+    let (f, l) = and-eq-true-iff (not (eqb b digit0) && all (b ∷ c ∷ cs) digit) (leb (length (b ∷ c ∷ cs)) mostDigits) .0 e in
+    let (z, ds) = and-eq-true-iff (not (eqb b digit0)) (all (b ∷ c ∷ cs) digit) .0 f in
+    record { are-digits = ds; few = leb-true (length (b ∷ c ∷ cs)) mostDigits l; back = decimal-only b (c ∷ cs) ds (λ e. absurd (eqb-false b digit0 (not-true (eqb b digit0) z) e)) }
 
 number-small : (bs : List ℕ) → IsNumber bs → fromDigits 0 bs < 10 ^ mostDigits
 number-small bs w = omega (arith, digits-bound bs 0 (w .are-digits), pow-le-pow-right {n = 10} (omega arith) (w .few))
 
--- Bytes are the number n exactly when they are n in decimal: a number has one spelling.
+-- Bytes are the number n exactly when they are n in decimal, of as many digits as a file may have: a number has one spelling.
 pub number-exact : (bs : List ℕ) (n : ℕ) → (number bs ≡ says n) ↔ ((decimal n ≡ bs) × (n < 10 ^ mostDigits))
 unfolding number
 number-exact bs n = (

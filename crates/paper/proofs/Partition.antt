@@ -10,7 +10,8 @@ use lib.ListN.{length, getD, length-append, List·getD-append}
 use lib.Seq.{getD-append-seam}
 use borrow.Author.Tests.{leb-true}
 use Rattle.paper.specs.Tables.{numbered}
-use Rattle.paper.specs.Partition.{SamePartition}
+use Rattle.paper.specs.WellFormed.{Numbered, SamePartition}
+use Rattle.paper.proofs.Words.{numbered-exact}
 
 -- The classes below k, and no others, are in use.
 record Used (ps : List ℕ) (k : ℕ) : Type 0 where
@@ -55,5 +56,5 @@ lines ps k u (c ∷ cs) (d ∷ ds) n m w =
     cc
 
 -- One partition has one line.
-pub one-line : (cs ds : List ℕ) → numbered 0 cs ≡ true → numbered 0 ds ≡ true → SamePartition cs ds → cs ≡ ds
-one-line cs ds n m w = lines [] 0 (record { member = λ c h. absurd (omega arith) }) cs ds n m w
+pub one-line : (cs ds : List ℕ) → Numbered cs → Numbered ds → SamePartition cs ds → cs ≡ ds
+one-line cs ds n m w = lines [] 0 (record { member = λ c h. absurd (omega arith) }) cs ds (numbered-exact cs .1 n) (numbered-exact ds .1 m) w

@@ -2,15 +2,16 @@
 use mathlib.Core.Path.{_≡_, refl, ap, _∙_}
 use mathlib.Core.Logic.{_⊎_, inl, inr}
 use mathlib.Core.List.{List, [], _∷_, _++_, map, List·Memᴰ·head, Memᴰ·append-right}
-use Prim.Native.Nat.{ℕ, zero, suc, _+_, _*_, _^_, _<_}
+use Prim.Native.Nat.{ℕ, zero, suc, _+_, _*_, _^_}
 use native.Mathlib.Omega.{arith}
 use native.Mathlib.Nat.{zero-mul, suc-mul}
 use lib.ListN.{length, length-append, length-map, take}
-use Rattle.theory.specs.Lists.{countFrom}
+use Rattle.theory.specs.Lists.{countFrom, Nth}
 use Rattle.theory.specs.Rewriting.{Rule, variableCount}
-use Rattle.theory.specs.Search.{spread, substitutions}
+use Rattle.theory.specs.Value.{spread, substitutions}
+use Rattle.theory.proofs.Nth.{nth-split}
 use Rattle.theory.proofs.Search.{substitutions-sound}
-use Rattle.paper.specs.Verdict.{Case, case, cases}
+use Rattle.paper.specs.Computed.{Case, case, cases}
 use Rattle.paper.specs.Meaning.{total, placeOf}
 use Rattle.paper.proofs.Cases.{length-substitutions}
 
@@ -87,21 +88,24 @@ substitutions-place k (suc v) before σ rest e =
 -- A substitution to be examined: its rule is in the list, and before it stand those of the earlier rules and the earlier ones of its own.
 pub record Placed (k n : ℕ) (R : List Rule) (c : Case) (count : ℕ) : Type 0 where
   pub earlier : ℕ
-  pub listed : earlier < length R
+  pub listed : Nth R earlier (c .rule)
   pub number : c .number ≡ n + earlier
   pub place : count ≡ total k (take earlier R) + placeOf k (c .σ)
 
-pub cases-place : (k n : ℕ) (R : List Rule) (before : List Case) (c : Case) (rest : List Case) → before ++ (c ∷ rest) ≡ cases k n R → Placed k n R c (length before)
-unfolding cases total
+cases-place : (k n : ℕ) (R : List Rule) (before : List Case) (c : Case) (rest : List Case) → before ++ (c ∷ rest) ≡ cases k n R → Placed k n R c (length before)
+unfolding cases total Nth
 cases-place k n [] [] c rest e = let z : _≡_ {A = ℕ} 0 1 = cc in absurd (omega arith)
 cases-place k n [] (b ∷ bs) c rest e = let z : _≡_ {A = ℕ} 0 1 = cc in absurd (omega arith)
 cases-place k n (rule ∷ R) before c rest e = elim (split-append before (map (case n rule) (substitutions k (variableCount rule))) c rest (cases k (suc n) R) e) [
   | inl (more, h) ↦
       let m = split-map (case n rule) (substitutions k (variableCount rule)) before c more h in
       let p = substitutions-place k (variableCount rule) (m .before) (m .this) (m .rest) (m .split) in
-      record { earlier = 0; listed = omega arith; number = omega (arith, ap (λ c. c .number) (m .image)); place = omega (arith, m .count, p ∙ ap (λ c. placeOf k (c .σ)) (m .image)) }
+      record { earlier = 0; listed = ap (λ c. c .rule) (m .image); number = omega (arith, ap (λ c. c .number) (m .image)); place = omega (arith, m .count, p ∙ ap (λ c. placeOf k (c .σ)) (m .image)) }
   | inr (more, h, i) ↦
       let s = cases-place k (suc n) R more c rest i in
       let long : length before ≡ k ^ variableCount rule + length more = ap length h ∙ (length-append (map (case n rule) (substitutions k (variableCount rule))) more ∙ rw (length-map (substitutions k (variableCount rule)) (case n rule), length-substitutions)) in
-      record { earlier = suc (s .earlier); listed = omega (arith, s .listed); number = omega (arith, s .number); place = omega (arith, s .place) }
+      record { earlier = suc (s .earlier); listed = s .listed; number = omega (arith, s .number); place = omega (arith, s .place) }
 ]
+
+pub cases-nth : (k : ℕ) (R : List Rule) (i : ℕ) (c : Case) → Nth (cases k 0 R) i c → Placed k 0 R c i
+cases-nth k R i c n = let (before, rest, e, l) = nth-split (cases k 0 R) i c n in rw l at (cases-place k 0 R before c rest e)

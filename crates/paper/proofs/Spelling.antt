@@ -2,36 +2,35 @@
 use mathlib.Core.Path.{_≡_, refl, sym, ap, _∙_}
 use mathlib.Core.Logic.{inl, inr}
 use mathlib.Core.Bool.{Bool, true, false}
-use mathlib.Core.List.{List, [], _∷_, _++_, map, append-assoc, append-nil, dropLast}
+use mathlib.Core.List.{List, [], _∷_, _++_, map, append-assoc, append-nil, List·Memᴰ, List·Memᴰ·append-cases, List·Memᴰ·eq-of-singleton, dropLast}
 use Prim.Native.Nat.{ℕ, zero, suc, _+_}
 use Prim.Native.String.{String}
 use native.Mathlib.Omega.{arith}
 use lib.Dec.{eqb, leb}
 use lib.ListN.{length, getD}
 use Rattle.theory.specs.Term.{Term}
-use Rattle.theory.specs.Preorder.{Token, function, argument, preorder}
-use Rattle.theory.specs.Automaton.{Transition}
+use Rattle.theory.specs.Preorder.{Token, symbol, variable, preorder}
 use Rattle.theory.proofs.Tests.{equal-iff}
 use Rattle.paper.specs.Bytes.{bytes, LF, comma, letterX}
 use Rattle.paper.specs.Limits.{mostBytes}
-use Rattle.paper.specs.Judged
-use Rattle.paper.specs.Judged.{Judged, fault, says}
-use Rattle.paper.specs.Lines.{takeLine, Said, judgedLine}
+use Rattle.paper.specs.Checked
+use Rattle.paper.specs.Checked.{Checked, fault, says}
+use Rattle.paper.specs.Lines.{takeLine, Said, checkedLine}
 use Rattle.paper.specs.Fields.{each, number, entries, token}
 use Rattle.paper.specs.Certificate.{Certificate, Kind, Budget, Arities, States, Final, Trans, BadStates, BadFinal, BadTrans, Rules, Merge, row}
-use Rattle.paper.specs.Tables.{numbers, numbersOf, one, list, arityList, finalList, lastOf, transitionOf, fromNumbers, transition, classList}
+use Rattle.paper.specs.Tables.{numbers, numbersOf, singleNumber, numberList, arityList, finalList, lastOf, transitionOf, fromNumbers, transition, classList}
 use Rattle.paper.specs.Sides.{term, leftSide, rightSide}
 use Rattle.paper.specs.Format.{Reading, refused, gave, Reader, goOn, _>>=_, _>>_, give, onLine, lineOf, fixed, times, rule, end, certificate, holds, wholeFile, readFile}
 use Rattle.paper.specs.Answer.{decimal, decimals, lineWith}
-use Rattle.paper.specs.Spelling.{tokenText, tokensText, together, fixedText, transitionText, ruleText, fileOf}
+use Rattle.paper.specs.Spelling.{tokenText, tokensText, together, fixedText, transitionText, ruleText, fileOf, transitionNumbers}
 use Rattle.paper.proofs.Smallest.{decided}
-use Rattle.paper.proofs.Judged.{silent, parts, Says, said, passed, spoken}
+use Rattle.paper.proofs.Checked.{silent, parts, Says, said, passed, spoken}
 use Rattle.paper.proofs.Lines.{take-exact, joined, entries-sound}
 use Rattle.paper.proofs.Numbers.{number-exact}
 use Rattle.paper.proofs.Preorder.{preorder-exact}
 
 -- Each entry read is spelled by what it is read as.
-each-spelled : {Y : Type 0} (f : List ℕ → Judged Y) (g : Y → List ℕ) → ((e : List ℕ) → Says (λ y. g y ≡ e) (f e)) → (es : List (List ℕ)) → Says (λ ys. map g ys ≡ es) (each f es)
+pub each-spelled : {Y : Type 0} (f : List ℕ → Checked Y) (g : Y → List ℕ) → ((e : List ℕ) → Says (λ y. g y ≡ e) (f e)) → (es : List (List ℕ)) → Says (λ ys. map g ys ≡ es) (each f es)
 unfolding each
 each-spelled f g h [] = spoken _ [] refl
 each-spelled f g h (e ∷ es) = said _ _ (h e) (λ y p. said _ _ (each-spelled f g h es) (λ ys ps. spoken _ (y ∷ ys) (ap₂ p ps)))
@@ -51,31 +50,31 @@ joined-tokens [] = refl
 joined-tokens (n ∷ []) = refl
 joined-tokens (n ∷ m ∷ ns) = ap (λ l. tokenText n ++ (comma ∷ l)) (joined-tokens (m ∷ ns))
 
-entries-joined : (value : List ℕ) → joined (entries value) ≡ value
+pub entries-joined : (value : List ℕ) → joined (entries value) ≡ value
 entries-joined value = let i = entries-sound value in ap joined (i .are) ∙ i .whole
 
-numbers-spelled : (value : List ℕ) → Says (λ ns. decimals ns ≡ value) (numbers value)
+pub numbers-spelled : (value : List ℕ) → Says (λ ns. decimals ns ≡ value) (numbers value)
 unfolding numbers
 numbers-spelled value ns e = sym (joined-decimals ns) ∙ (ap joined (each-spelled number decimal (λ e n d. number-exact e n .0 d .0) (entries value) ns e) ∙ entries-joined value)
 
-numbersOf-spelled : (b : Bool) (value : List ℕ) → Says (λ ns. decimals ns ≡ value) (numbersOf b value)
+pub numbersOf-spelled : (b : Bool) (value : List ℕ) → Says (λ ns. decimals ns ≡ value) (numbersOf b value)
 unfolding numbersOf decimals
 numbersOf-spelled false value = numbers-spelled value
 numbersOf-spelled true [] = spoken _ [] refl
 numbersOf-spelled true (b ∷ bs) = numbers-spelled (b ∷ bs)
 
-token-spelled : (e : List ℕ) → Says (λ t. tokenText t ≡ e) (token e)
+pub token-spelled : (e : List ℕ) → Says (λ t. tokenText t ≡ e) (token e)
 unfolding token tokenText
 token-spelled [] t e = absurd (silent e)
 token-spelled (b ∷ bs) t e = elim (decided (eqb b letterX)) [
   | inl h ↦
       let same = equal-iff b letterX .0 h in
-      said _ _ (λ n d. number-exact bs n .0 d .0) (λ n d. spoken (λ t. tokenText t ≡ b ∷ bs) (argument n) (cc)) t (rw (h, token) at e)
-  | inr h ↦ said _ _ (λ n d. number-exact (b ∷ bs) n .0 d .0) (λ n d. spoken (λ t. tokenText t ≡ b ∷ bs) (function n) d) t (rw (h, token) at e)
+      said _ _ (λ n d. number-exact bs n .0 d .0) (λ n d. spoken (λ t. tokenText t ≡ b ∷ bs) (variable n) (cc)) t (rw (h, token) at e)
+  | inr h ↦ said _ _ (λ n d. number-exact (b ∷ bs) n .0 d .0) (λ n d. spoken (λ t. tokenText t ≡ b ∷ bs) (symbol n) d) t (rw (h, token) at e)
 ]
 
-one-spelled : (kind : Kind) (value : List ℕ) → Says (λ n. decimal n ≡ value) (one kind value)
-unfolding one decimals
+one-spelled : (kind : Kind) (value : List ℕ) → Says (λ n. decimal n ≡ value) (singleNumber kind value)
+unfolding singleNumber decimals
 one-spelled kind value = said _ _ (numbersOf-spelled (row kind .empty) value) (λ ns s. passed 4 _ _ (λ l. passed 5 _ _ (λ h. spoken _ _ (single ns s l))))
   where
     single : (ns : List ℕ) → decimals ns ≡ value → eqb (length ns) 1 ≡ true → decimal (getD ns 0 0) ≡ value
@@ -83,8 +82,8 @@ one-spelled kind value = said _ _ (numbersOf-spelled (row kind .empty) value) (�
     single (n ∷ []) s l = s
     single (n ∷ m ∷ ns) s l = absurd (omega (arith, equal-iff (length (n ∷ m ∷ ns)) 1 .0 l))
 
-list-spelled : (kind : Kind) (value : List ℕ) → Says (λ ns. decimals ns ≡ value) (list kind value)
-unfolding list
+list-spelled : (kind : Kind) (value : List ℕ) → Says (λ ns. decimals ns ≡ value) (numberList kind value)
+unfolding numberList
 list-spelled kind value = said _ _ (numbersOf-spelled (row kind .empty) value) (λ ns s. passed 5 _ _ (λ h. spoken _ ns s))
 
 arities-spelled : (value : List ℕ) → Says (λ ns. decimals ns ≡ value) (arityList value)
@@ -104,9 +103,9 @@ unfolding lastOf
 last-back q [] = refl
 last-back q (r ∷ qs) = ap (λ l. q ∷ l) (last-back r qs)
 
--- A transition's numbers.
-abbrev transitionNumbers : Transition → List ℕ
-transitionNumbers t = t .symbol ∷ (t .arguments ++ (t .target ∷ []))
+-- What holds of a list's elements and of one behind them.
+pub either-last : {P : ℕ → Type 0} (qs : List ℕ) (q : ℕ) → ((p : ℕ) → List·Memᴰ p qs → P p) → P q → (p : ℕ) → List·Memᴰ p (qs ++ (q ∷ [])) → P p
+either-last {P} qs q h g p m = elim (List·Memᴰ·append-cases qs m) [ inl i ↦ h p i | inr i ↦ let same = List·Memᴰ·eq-of-singleton i in rw same g ]
 
 transition-spelled : (arities : List ℕ) (n : ℕ) (value : List ℕ) → Says (λ t. decimals (transitionNumbers t) ≡ value) (transition arities n value)
 unfolding transition transitionOf fromNumbers
@@ -118,7 +117,7 @@ transition-spelled arities n value = said _ _ (numbers-spelled value) go
 
     go : (ns : List ℕ) → decimals ns ≡ value → Says (λ t. decimals (transitionNumbers t) ≡ value) (fromNumbers arities n ns)
     go [] s t e = absurd (silent e)
-    go (f ∷ qs) s t e = passed 5 _ _ (λ h. passed 6 _ _ (λ l. spoken (λ t. decimals (transitionNumbers t) ≡ value) _ (ap (λ qs. decimals (f ∷ qs)) (good f qs l) ∙ s))) t e
+    go (f ∷ qs) s t e = passed _ _ _ (λ h. passed _ _ _ (λ l. spoken (λ t. decimals (transitionNumbers t) ≡ value) _ (ap (λ qs. decimals (f ∷ qs)) (good f qs l) ∙ s))) t e
 
 term-spelled : (arities value : List ℕ) → Says (λ t. tokensText (preorder t) ≡ value) (term arities value)
 unfolding term
@@ -126,11 +125,11 @@ term-spelled arities value = said _ _ (each-spelled token tokenText token-spelle
 
 left-spelled : (arities value : List ℕ) → Says (λ t. tokensText (preorder t) ≡ value) (leftSide arities value)
 unfolding leftSide
-left-spelled arities value = said _ _ (term-spelled arities value) (λ l s. passed 9 _ _ (λ h. spoken _ l s))
+left-spelled arities value = said _ _ (term-spelled arities value) (λ l s. passed _ _ _ (λ h. spoken _ l s))
 
 right-spelled : (arities : List ℕ) (l : Term ℕ) (value : List ℕ) → Says (λ t. tokensText (preorder t) ≡ value) (rightSide arities l value)
 unfolding rightSide
-right-spelled arities l value = said _ _ (term-spelled arities value) (λ r s. passed 10 _ _ (λ h. spoken _ r s))
+right-spelled arities l value = said _ _ (term-spelled arities value) (λ r s. passed _ _ _ (λ h. spoken _ r s))
 
 -- What a reader gives fulfils P, and the bytes that it took are f's text of it.
 abbrev Spells : {X : Type 0} → (X → Type 0) → (X → List ℕ) → Reader X → Type 0
@@ -170,26 +169,26 @@ takes-give Q y q line rest x line′ rest′ e = let same : y ≡ x = cc in let 
 takes-spells : {Y : Type 0} (P : Y → Type 0) (f : Y → List ℕ) (r : Reader Y) → Takes (λ y t. P y × (t ≡ f y)) r → Spells P f r
 takes-spells P f r h line rest y line′ rest′ e = let (t, (p, q), s) = h line rest y line′ rest′ e in (p, s ∙ ap (λ l. l ++ rest′) q)
 
-on-line-rest : {X : Type 0} (j : Judged (Said X)) (line : ℕ) (x : X) (line′ : ℕ) (rest′ : List ℕ) → onLine line j ≡ gave x line′ rest′ → (s : Said X) × (j ≡ says s) × (s .what ≡ x) × (s .rest ≡ rest′)
+on-line-rest : {X : Type 0} (j : Checked (Said X)) (line : ℕ) (x : X) (line′ : ℕ) (rest′ : List ℕ) → onLine line j ≡ gave x line′ rest′ → (s : Said X) × (j ≡ says s) × (s .what ≡ x) × (s .rest ≡ rest′)
 unfolding onLine
 on-line-rest (fault n) line x line′ rest′ e = let z : _≡_ {A = ℕ} 0 1 = cc in absurd (omega arith)
 on-line-rest (says s) line x line′ rest′ e = (s, refl, cc, cc)
 
 -- A line is its key, `=`, the text of what it says, and LF.
-line-spells : {X : Type 0} (f : X → List ℕ) (judge : List ℕ → Judged X) → ((value : List ℕ) → Says (λ x. f x ≡ value) (judge value)) → (key : String) → Spells (λ x. Unit {0}) (λ x. lineWith key (f x)) (lineOf key judge)
-unfolding lineOf judgedLine lineWith
+line-spells : {X : Type 0} (f : X → List ℕ) (judge : List ℕ → Checked X) → ((value : List ℕ) → Says (λ x. f x ≡ value) (judge value)) → (key : String) → Spells (λ x. Unit {0}) (λ x. lineWith key (f x)) (lineOf key judge)
+unfolding lineOf checkedLine lineWith
 line-spells f judge h key line rest x line′ rest′ e =
-    let (s, d, p, q) = on-line-rest (judgedLine key judge rest) line x line′ rest′ e in
+    let (s, d, p, q) = on-line-rest (checkedLine key judge rest) line x line′ rest′ e in
     let (l, a, b) = parts (takeLine key rest) _ d in
-    let (y, c, g) = parts (judge (l .value)) _ b in
+    let (y, c, g) = parts (judge (l .what)) _ b in
     let same : record { what = y; rest = l .rest } ≡ s = cc in
     let what : y ≡ x = ap (λ s. s .what) same ∙ p in
     let behind : l .rest ≡ rest′ = ap (λ s. s .rest) same ∙ q in
-    let text : f x ≡ l .value = ap f (sym what) ∙ h (l .value) y c in
+    let text : f x ≡ l .what = ap f (sym what) ∙ h (l .what) y c in
     let whole = take-exact key rest l .0 a .0 in
-    (tt, sym whole ∙ (ap (λ r. bytes key ++ bytes "=" ++ (l .value ++ (LF ∷ r))) behind ∙ (rw (← text) (simp append-assoc))))
+    (tt, sym whole ∙ (ap (λ r. bytes key ++ bytes "=" ++ (l .what ++ (LF ∷ r))) behind ∙ (rw (← text) (simp append-assoc))))
 
-fixed-spells : {X : Type 0} (f : X → List ℕ) (kind : Kind) (judge : Kind → List ℕ → Judged X) → ((value : List ℕ) → Says (λ x. f x ≡ value) (judge kind value)) → Spells (λ x. Unit {0}) (λ x. fixedText kind (f x)) (fixed kind judge)
+fixed-spells : {X : Type 0} (f : X → List ℕ) (kind : Kind) (judge : Kind → List ℕ → Checked X) → ((value : List ℕ) → Says (λ x. f x ≡ value) (judge kind value)) → Spells (λ x. Unit {0}) (λ x. fixedText kind (f x)) (fixed kind judge)
 unfolding fixed fixedText
 fixed-spells f kind judge h = line-spells f (judge kind) h (row kind .key)
 
@@ -210,8 +209,8 @@ rule-spells : (arities : List ℕ) → Spells (λ rule. Unit {0}) ruleText (rule
 unfolding rule ruleText
 rule-spells arities = takes-spells (λ rule. Unit {0}) ruleText _ (taken _ (sideText "l") _ _ (line-spells (λ l. tokensText (preorder l)) _ (left-spelled arities) "l") (λ l u. taken _ (sideText "r") _ _ (line-spells (λ r. tokensText (preorder r)) _ (right-spelled arities l) "r") (λ r v. takes-give _ _ (tt, ap (λ t. sideText "l" l ++ t) (append-nil _)))))
 
-number-line : (kind : Kind) → Spells (λ n. Unit {0}) (λ n. fixedText kind (decimal n)) (fixed kind one)
-number-line kind = fixed-spells decimal kind one (one-spelled kind)
+number-line : (kind : Kind) → Spells (λ n. Unit {0}) (λ n. fixedText kind (decimal n)) (fixed kind singleNumber)
+number-line kind = fixed-spells decimal kind singleNumber (one-spelled kind)
 
 end-takes : (line : ℕ) (rest : List ℕ) (x : Unit {0}) (line′ : ℕ) (rest′ : List ℕ) → end line rest ≡ gave x line′ rest′ → (rest ≡ []) × (rest′ ≡ [])
 unfolding end

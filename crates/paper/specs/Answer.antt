@@ -2,21 +2,21 @@
 use mathlib.Core.Bool.{true, false}
 use mathlib.Core.List.{List, [], _∷_, _++_}
 use mathlib.Core.Option.{Option, none, some}
-use Prim.Native.Nat.{ℕ, zero, suc, _+_, _-_, _/_, _%_}
+use Prim.Native.Nat.{ℕ, zero, suc, _+_, _/_, _%_}
 use Prim.Native.String.{String}
 use lib.Dec.{ltb}
 use Rattle.paper.specs.Bytes.{bytes, LF, comma, digit0}
-use Rattle.paper.specs.Limits.{mostDigits}
-use Rattle.paper.specs.Verdict.{Verdict, malformed, unsuitable, critical, accepted, stopped, verdictOf}
+use Rattle.paper.specs.Meaning.{malformed, unsuitable, critical, accepted, stopped, Verdict}
+use Rattle.paper.specs.Computed.{verdictOf}
 
--- A number's digits before the bytes that follow, at most k + 1 of them.
-unfoldable pub digits : ℕ → ℕ → List ℕ → List ℕ
-digits zero n bs = (digit0 + n % 10) ∷ bs
-digits (suc k) n bs = elim (ltb n 10) [ true ↦ (digit0 + n) ∷ bs | false ↦ digits k (n / 10) ((digit0 + n % 10) ∷ bs) ]
+-- A number's digits: its only one, or those of its tenth and then its last. The count k ends the recursion; where n ≤ k it cuts nothing off.
+unfoldable pub digits : (k n : ℕ) → List ℕ
+digits zero n = (digit0 + n) ∷ []
+digits (suc k) n = elim (ltb n 10) [ true ↦ (digit0 + n) ∷ [] | false ↦ digits k (n / 10) ++ ((digit0 + n % 10) ∷ []) ]
 
--- A number in decimal, of as many digits as a file may have.
+-- A number in decimal, whatever its size.
 unfoldable pub decimal : ℕ → List ℕ
-decimal n = digits (mostDigits - 1) n []
+decimal n = digits n n
 
 -- Numbers parted by commas.
 unfoldable pub decimals : List ℕ → List ℕ
@@ -39,7 +39,15 @@ lineWith key value = bytes key ++ (bytes "=" ++ (value ++ (LF ∷ [])))
 
 -- The eight lines in their order.
 unfoldable pub eight : String → (refusal line rule x class bad examined : List ℕ) → List ℕ
-eight verdict refusal line rule x class bad examined = lineWith "verdict" (bytes verdict) ++ (lineWith "refusal" refusal ++ (lineWith "line" line ++ (lineWith "rule" rule ++ (lineWith "x" x ++ (lineWith "class" class ++ (lineWith "bad" bad ++ lineWith "examined" examined))))))
+eight verdict refusal line rule x class bad examined =
+    lineWith "verdict" (bytes verdict)
+    ++ (lineWith "refusal" refusal
+    ++ (lineWith "line" line
+    ++ (lineWith "rule" rule
+    ++ (lineWith "x" x
+    ++ (lineWith "class" class
+    ++ (lineWith "bad" bad
+    ++ lineWith "examined" examined))))))
 
 -- The answer to each verdict.
 unfoldable pub answer : Verdict → List ℕ

@@ -28,7 +28,6 @@ pub record Row : Type 0 where
   pub most : ℕ
   pub empty : Bool
 
--- A row, written as a sentence.
 infix 30 _from_to_entries_empty_
 abbrev pub _from_to_entries_empty_ : String → ℕ → ℕ → ℕ → Bool → Row
 key from least to greatest entries most empty e = record { key = key; least = least; greatest = greatest; most = most; empty = e }

@@ -5,7 +5,8 @@ use Prim.Native.Nat.{ℕ}
 use lib.Dec.{ltb}
 use lib.ListN.{length, drop}
 use Rattle.paper.specs.Limits.{leastBuffer}
-use Rattle.paper.specs.Verdict.{Verdict, malformed, unsuitable, critical, accepted, stopped, verdictOf}
+use Rattle.paper.specs.Meaning.{malformed, unsuitable, critical, accepted, stopped, Verdict}
+use Rattle.paper.specs.Computed.{verdictOf}
 use Rattle.paper.specs.Answer.{answerOf}
 
 -- The refusal's number, and 0 when not malformed.

@@ -4,18 +4,18 @@ use mathlib.Core.List.{List, [], _∷_}
 use Prim.Native.Nat.{ℕ, _+_, _*_, _-_}
 use lib.Dec.{eqb, leb}
 use lib.ListN.{length}
-use Rattle.theory.specs.Preorder.{Token, function, argument}
+use Rattle.theory.specs.Preorder.{Token, symbol, variable}
 use Rattle.paper.specs.Bytes.{comma, digit0, letterX}
 use Rattle.paper.specs.Limits.{mostDigits}
-use Rattle.paper.specs.Judged.{Judged, fault, says, _>>=_, _>>_, _unless_}
+use Rattle.paper.specs.Checked.{Checked, fault, says, _>>=_, _>>_, _unless_}
 
 -- Every element of the list passes the test.
-unfoldable pub all : {Y : Type 0} → (Y → Bool) → List Y → Bool
-all test [] = true
-all test (y ∷ ys) = test y && all test ys
+unfoldable pub all : {Y : Type 0} → List Y → (Y → Bool) → Bool
+all [] test = true
+all (y ∷ ys) test = test y && all ys test
 
 -- Every element read by f.
-unfoldable pub each : {Y Z : Type 0} → (Y → Judged Z) → List Y → Judged (List Z)
+unfoldable pub each : {Y Z : Type 0} → (Y → Checked Z) → List Y → Checked (List Z)
 each f [] = says []
 each f (y ∷ ys) = do
   z ← f y
@@ -30,7 +30,7 @@ digit b = leb digit0 b && leb b (digit0 + 9)
 unfoldable pub isNumber : List ℕ → Bool
 isNumber [] = false
 isNumber (b ∷ []) = digit b
-isNumber (b ∷ c ∷ bs) = not (eqb b digit0) && all digit (b ∷ c ∷ bs) && leb (length (b ∷ c ∷ bs)) mostDigits
+isNumber (b ∷ c ∷ bs) = not (eqb b digit0) && all (b ∷ c ∷ bs) digit && leb (length (b ∷ c ∷ bs)) mostDigits
 
 -- The number n with more digits behind it.
 unfoldable pub fromDigits : ℕ → List ℕ → ℕ
@@ -38,7 +38,7 @@ fromDigits n [] = n
 fromDigits n (b ∷ bs) = fromDigits (10 * n + (b - digit0)) bs
 
 -- An entry read as a number.
-unfoldable pub number : List ℕ → Judged ℕ
+unfoldable pub number : List ℕ → Checked ℕ
 number bs = do
   4 unless isNumber bs
   says (fromDigits 0 bs)
@@ -54,13 +54,13 @@ entries [] = [] ∷ []
 entries (b ∷ bs) = elim (eqb b comma) [ true ↦ [] ∷ entries bs | false ↦ lengthen b (entries bs) ]
 
 -- An entry read as a token: a symbol number, or `x` and a number for a variable.
-unfoldable pub token : List ℕ → Judged Token
+unfoldable pub token : List ℕ → Checked Token
 token [] = fault 4
 token (b ∷ bs) = elim (eqb b letterX) [
   | true ↦ do
     n ← number bs
-    says (argument n)
+    says (variable n)
   | false ↦ do
     n ← number (b ∷ bs)
-    says (function n)
+    says (symbol n)
 ]

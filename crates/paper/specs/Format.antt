@@ -7,11 +7,11 @@ use Prim.Native.String.{String}
 use lib.Dec.{leb}
 use lib.ListN.{length}
 use Rattle.theory.specs.Rewriting.{Rule}
-use Rattle.paper.specs.Limits.{mostBytes}
-use Rattle.paper.specs.Judged.{Judged, fault, says}
-use Rattle.paper.specs.Lines.{Said, judgedLine}
+use Rattle.paper.specs.Limits.{mostBytes, mostLines}
+use Rattle.paper.specs.Checked.{Checked, fault, says}
+use Rattle.paper.specs.Lines.{Said, checkedLine}
 use Rattle.paper.specs.Certificate.{Certificate, Kind, Budget, Arities, States, Final, Trans, BadStates, BadFinal, BadTrans, Rules, Merge, row}
-use Rattle.paper.specs.Tables.{one, arityList, finalList, transition, classList}
+use Rattle.paper.specs.Tables.{singleNumber, arityList, finalList, transition, classList}
 use Rattle.paper.specs.Sides.{leftSide, rightSide}
 
 -- What reading gives: a refusal on a line, or x with the next line's number and the bytes that are left.
@@ -33,7 +33,6 @@ goOn (gave x line rest) next = next x line rest
 unfoldable pub _>>=_ : {X Y : Type 0} → Reader X → (X → Reader Y) → Reader Y
 _>>=_ reader next line rest = goOn (reader line rest) next
 
--- The same where nothing is handed on.
 unfoldable pub _>>_ : {X Y : Type 0} → Reader X → Reader Y → Reader Y
 _>>_ reader next line rest = goOn (reader line rest) (λ x. next)
 
@@ -42,16 +41,16 @@ unfoldable pub give : {X : Type 0} → X → Reader X
 give x line rest = gave x line rest
 
 -- What a line says, on its line.
-unfoldable pub onLine : {X : Type 0} → ℕ → Judged (Said X) → Reading X
+unfoldable pub onLine : {X : Type 0} → ℕ → Checked (Said X) → Reading X
 onLine line (fault number) = refused number line
 onLine line (says s) = gave (s .what) (suc line) (s .rest)
 
 -- The line with this key, judged.
-unfoldable pub lineOf : {X : Type 0} → String → (List ℕ → Judged X) → Reader X
-lineOf key judge line rest = onLine line (judgedLine key judge rest)
+unfoldable pub lineOf : {X : Type 0} → String → (List ℕ → Checked X) → Reader X
+lineOf key judge line rest = onLine line (checkedLine key judge rest)
 
 -- A fixed line, by its kind.
-unfoldable pub fixed : {X : Type 0} → Kind → (Kind → List ℕ → Judged X) → Reader X
+unfoldable pub fixed : {X : Type 0} → Kind → (Kind → List ℕ → Checked X) → Reader X
 fixed kind judge = lineOf (row kind .key) (judge kind)
 
 -- That many readings, one after another.
@@ -77,37 +76,44 @@ end line (b ∷ bs) = refused 3 line
 -- The lines in their fixed order.
 unfoldable pub certificate : Reader Certificate
 certificate = do
-  budget ← fixed Budget one
+  budget ← fixed Budget singleNumber
   arities ← fixed Arities (λ kind. arityList)
-  n ← fixed States one
+  n ← fixed States singleNumber
   final ← fixed Final (λ kind. finalList kind n)
-  count ← fixed Trans one
+  count ← fixed Trans singleNumber
   ts ← times count (lineOf "t" (transition arities n))
-  m ← fixed BadStates one
+  m ← fixed BadStates singleNumber
   badfinal ← fixed BadFinal (λ kind. finalList kind m)
-  badcount ← fixed BadTrans one
+  badcount ← fixed BadTrans singleNumber
   us ← times badcount (lineOf "u" (transition arities m))
-  rulecount ← fixed Rules one
+  rulecount ← fixed Rules singleNumber
   rules ← times rulecount (rule arities)
   merge ← fixed Merge (λ kind. classList n)
   end
-  give (record { budget = budget; arities = arities; A = record { states = n; transitions = ts; final = final }; B = record { states = m; transitions = us; final = badfinal }; rules = rules; merge = merge })
+  give (record {
+    budget = budget;
+    arities = arities;
+    A = record { states = n; transitions = ts; final = final };
+    B = record { states = m; transitions = us; final = badfinal };
+    rules = rules;
+    merge = merge;
+  })
 
 -- A file is malformed, by a number and perhaps a line, or holds a certificate.
 pub data File : Type 0 where
-  malformed : (number : ℕ) → (line : Option ℕ) → File
+  unreadable : (number : ℕ) → (line : Option ℕ) → File
   holds : Certificate → File
 
--- How a file is refused: by 2 on no line, or by a number from 3 to 11 on a line, counted from 1; there are no more lines than bytes, and one after the last.
+-- How a file is refused: by 2 on no line, or by a number from 3 to 11 on a line, counted from 1, at most one behind the last that there may be.
 pub data Refusal : ℕ → Option ℕ → Type 0 where
   too-long : Refusal 2 none
-  on-line : {number line : ℕ} → 3 ≤ number → number ≤ 11 → 1 ≤ line → line ≤ suc mostBytes → Refusal number (some line)
+  on-line : {number line : ℕ} → 3 ≤ number → number ≤ 11 → 1 ≤ line → line ≤ suc mostLines → Refusal number (some line)
 
 -- The whole file's reading.
 unfoldable pub wholeFile : Reading Certificate → File
-wholeFile (refused number line) = malformed number (some line)
+wholeFile (refused number line) = unreadable number (some line)
 wholeFile (gave c line rest) = holds c
 
 -- 2: a file above 16,384 bytes, on no line; else the first faulty line, and on that line the smallest number.
 unfoldable pub readFile : List ℕ → File
-readFile file = elim (leb (length file) mostBytes) [ true ↦ wholeFile (certificate 1 file) | false ↦ malformed 2 none ]
+readFile file = elim (leb (length file) mostBytes) [ true ↦ wholeFile (certificate 1 file) | false ↦ unreadable 2 none ]

@@ -1,9 +1,12 @@
 -- The document's limits, each in one place.
-use Prim.Native.Nat.{ℕ, _-_}
+use Prim.Native.Nat.{ℕ, _+_, _-_}
 
--- The largest budget.
+-- The largest budget, and how many digits a number may have.
 abbrev pub mostBudget : ℕ
 mostBudget = 33_554_432
+
+abbrev pub mostDigits : ℕ
+mostDigits = 8
 
 -- How many symbols may be listed, and the largest arity.
 abbrev pub mostSymbols : ℕ
@@ -12,14 +15,13 @@ mostSymbols = 64
 abbrev pub mostArity : ℕ
 mostArity = 3
 
--- How many states an automaton may have, and the last state or class that there can be.
+-- How many states an automaton may have, the last state or class that there can be, and how many transitions.
 abbrev pub mostStates : ℕ
 mostStates = 32
 
 abbrev pub lastState : ℕ
 lastState = mostStates - 1
 
--- How many transitions an automaton may have.
 abbrev pub mostTransitions : ℕ
 mostTransitions = 128
 
@@ -33,11 +35,10 @@ mostTokens = 24
 abbrev pub lastVariable : ℕ
 lastVariable = 3
 
--- How many digits a number may have.
-abbrev pub mostDigits : ℕ
-mostDigits = 8
+-- How many lines a file may have, how many bytes, and how long an answer buffer must be.
+abbrev pub mostLines : ℕ
+mostLines = 10 + (mostTransitions + mostTransitions) + (mostRules + mostRules)
 
--- How long a file may be, and how long an answer buffer must be.
 abbrev pub mostBytes : ℕ
 mostBytes = 16_384
 

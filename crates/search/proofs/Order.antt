@@ -10,8 +10,8 @@ use lib.Seq.{getD-append-add}
 use Rattle.theory.specs.Lists.{countFrom}
 use Rattle.theory.specs.Term.{var}
 use Rattle.theory.specs.Rewriting.{Rule, variableCount}
-use Rattle.theory.specs.Search.{spread, substitutions}
-use Rattle.paper.specs.Verdict.{Case, case, cases}
+use Rattle.theory.specs.Value.{spread, substitutions}
+use Rattle.paper.specs.Computed.{Case, case, cases}
 use Rattle.paper.specs.Meaning.{total}
 use Rattle.paper.proofs.Cases.{length-substitutions}
 

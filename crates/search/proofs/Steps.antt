@@ -9,9 +9,9 @@ use Rattle.theory.specs.Term.{Term}
 use Rattle.theory.specs.Preorder.{preorder}
 use Rattle.theory.specs.Rewriting.{Rule, variableCount}
 use Rattle.theory.specs.Automaton.{Automaton}
-use Rattle.theory.specs.Search.{critical as isCritical}
+use Rattle.theory.specs.Value.{isCritical}
 use Rattle.theory.proofs.Count.{getD-values, length-count}
-use Rattle.paper.specs.Judged.{says}
+use Rattle.paper.specs.Checked.{says}
 use Rattle.paper.proofs.Preorder.{preorder-exact}
 use Rattle.sets.specs.Sets.{less}
 use Rattle.tables.specs.Held.{tokenOf, sideAt, ruleAt, rulesOf}

@@ -7,8 +7,8 @@ use native.Mathlib.Omega.{arith}
 use lib.ListN.{length, take}
 use lib.Seq.{take-all}
 use Rattle.theory.specs.Rewriting.{Rule}
-use Rattle.paper.specs.Verdict.{critical, accepted, stopped, case}
-use Rattle.paper.specs.Meaning.{total}
+use Rattle.paper.specs.Meaning.{critical, accepted, stopped, total}
+use Rattle.paper.specs.Computed.{case}
 use Rattle.paper.proofs.Examined.{Outcome}
 use Rattle.sets.specs.Sets.{mem, less}
 use Rattle.tables.specs.declared.Rules.{Rules}

@@ -13,11 +13,11 @@ use lib.Seq.{drop-cons, getD-take, take-all, take-append-le}
 use Rattle.theory.specs.Rewriting.{Rule, variableCount, WellShapedRules}
 use Rattle.theory.specs.Automaton.{Automaton, InRange}
 use Rattle.theory.specs.Critical.{entry}
-use Rattle.theory.specs.Value.{value}
-use Rattle.theory.specs.Search.{substitutions, critical as isCritical}
+use Rattle.theory.specs.Value.{value, substitutions, isCritical}
 use Rattle.theory.proofs.Search.{substitutions-sound, left-below}
-use Rattle.paper.specs.Verdict.{Verdict, critical, accepted, stopped, Case, case, cases, examine}
-use Rattle.paper.specs.Meaning.{total, Smallest, CriticalFor, Quiet}
+use Rattle.paper.specs.Meaning.{critical, accepted, stopped, Verdict, total, Smallest}
+use Rattle.paper.specs.Computed.{Case, case, cases, examine}
+use Rattle.paper.proofs.Listed.{CriticalFor, Quiet}
 use Rattle.paper.proofs.Cases.{length-cases, length-substitutions, critical-iff, class-some, class-none}
 use Rattle.paper.proofs.Examined.{Outcome, decides}
 use Rattle.sets.specs.Sets.{mem}
@@ -199,7 +199,7 @@ module _ (M : Automaton) (R : List Rule) where
     -- The first class that is critical.
     pub smallest-class : (r : ℕ) (rule : Rule) (σ : List ℕ) (q : ℕ) → isCritical M rule σ q ≡ true → ((x : ℕ) → x < q → isCritical M rule σ x ≡ false) → Smallest (CriticalFor M (case r rule σ)) q
     smallest-class r rule σ q is none = record {
-      holds = critical-iff M R (case r rule σ) q .0 is;
+      itself = critical-iff M R (case r rule σ) q .0 is;
       least = λ x k. elim (decLt x q) [ yes h ↦ absurd (true≢false (sym (critical-iff M R (case r rule σ) x .1 k) ∙ none x h)) | no nh ↦ omega arith ];
     }
 

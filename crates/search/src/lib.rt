@@ -12,7 +12,7 @@ use tables::Rules;
 use verdicts::Verdict;
 ghost use mathlib.Core.Path.{_≡_};
 ghost use lib.ListN.{take};
-ghost use Rattle.paper.specs.Verdict.{cases, examine};
+ghost use Rattle.paper.specs.Computed.{cases, examine};
 ghost use Rattle.tables.specs.Held.{rulesOf};
 ghost use Rattle.verdicts.specs.Said.{said};
 ghost use Rattle.lanes.specs.Automaton.{automatonOf};

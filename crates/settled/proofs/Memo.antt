@@ -10,7 +10,7 @@ use lib.Dec.{eqb, ltb, lit<}
 use lib.ListN.{length, getD, set}
 use lib.Seq.{getD-set-same, getD-set-other}
 use borrow.Author.Tests.{lt-ltb, le-ltb, ne-eqb}
-use Rattle.theory.specs.Lists.{some, countFrom}
+use Rattle.theory.specs.Lists.{any, countFrom}
 use Rattle.theory.specs.Term.{Term, Terms}
 use Rattle.theory.specs.Preorder.{Token}
 use Rattle.theory.specs.Automaton.{Transition}
@@ -45,8 +45,8 @@ unfolding part
 target-low w = mod-lt (w / 2 ^ (8 * 3)) (lit< tt)
 
 -- No word gives a class from 64 on.
-no-target : (arities words : List ℕ) (f : ℕ) (ss : List Set) (q : ℕ) → 64 ≤ q → (is : List ℕ) → some (map (λ i. moveOf arities (getD words i 0)) is) (fires f ss q) ≡ false
-unfolding some fires moveOf
+no-target : (arities words : List ℕ) (f : ℕ) (ss : List Set) (q : ℕ) → 64 ≤ q → (is : List ℕ) → any (map (λ i. moveOf arities (getD words i 0)) is) (fires f ss q) ≡ false
+unfolding any fires moveOf
 no-target arities words f ss q h [] = refl
 no-target arities words f ss q h (i ∷ is) =
     let tr = moveOf arities (getD words i 0) in
@@ -80,13 +80,13 @@ module _ (arities words : List ℕ) (n free : ℕ) (codes : List ℕ) (classes :
           → ((t : Term ℕ) (rest : List Token) → Spells arities tokens (from + p) t rest → (q : ℕ) → mem s q ≡ (ltb q 64 && spanned (wovenMoves arities words n) (setsOf codes 0) t q))
           → Settled (wovenMoves arities words n) arities other tokens from (set ends p (p + k)) (set sets p s)
       settled-more p k s hp quiet value = record {
-        end = λ i hi some t rest w. elim (ℕ-discrete i p) [
+        end = λ i hi any t rest w. elim (ℕ-discrete i p) [
           | yes e ↦ entry i e ∙ ap (λ m. i + m) (quiet t rest (moved i e w) .size)
-          | no ne ↦ kept i ne ∙ old .end i hi (subst (λ m. 0 < m) (kept i ne) some) t rest w
+          | no ne ↦ kept i ne ∙ old .end i hi (subst (λ m. 0 < m) (kept i ne) any) t rest w
         ];
-        set = λ i hi some t rest w j hj. elim (ℕ-discrete i p) [
+        set = λ i hi any t rest w j hj. elim (ℕ-discrete i p) [
           | yes e ↦ ap mem (ap (λ m. getD (set sets p s) m 0) e ∙ getD-set-same sets p s 0 (omega arith)) ∙ one-value t (quiet t rest (moved i e w) .below) s j (value t rest (moved i e w))
-          | no ne ↦ ap mem (getD-set-other sets p i s 0 ne) ∙ old .set i hi (subst (λ m. 0 < m) (kept i ne) some) t rest w j hj
+          | no ne ↦ ap mem (getD-set-other sets p i s 0 ne) ∙ old .set i hi (subst (λ m. 0 < m) (kept i ne) any) t rest w j hj
         ];
       }
         where

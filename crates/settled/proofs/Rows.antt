@@ -9,7 +9,7 @@ use native.Mathlib.Omega.{arith}
 use lib.ListN.{length, getD, drop}
 use borrow.Author.Tests.{lt-ltb, le-ltb}
 use Rattle.theory.specs.Term.{Term, Terms, var, node, none, _then_}
-use Rattle.theory.specs.Preorder.{Token, preorder, preorderAll, RankedRow, nothing, another}
+use Rattle.theory.specs.Preorder.{Token, preorder, preorderAll, RankedRow, no-more, one-more}
 use Rattle.tables.specs.Held.{tokenOf}
 use Rattle.values.specs.Standing.{Spells, SpellsRow, Stands}
 use Rattle.values.proofs.Standing.{First, taken-first, variable-here, symbol-here, no-terms, StandsRow, first-stands, others-behind}
@@ -27,8 +27,8 @@ joined-tokens none us = refl
 joined-tokens (t then ts) us = ap (_++_ (preorder t)) (joined-tokens ts us) ∙ sym (append-assoc (preorder t) (preorderAll ts) (preorderAll us))
 
 joined-ranked : {arities : List ℕ} {ts us : Terms ℕ} {n k : ℕ} (m : ℕ) → RankedRow arities ts n → RankedRow arities us k → m ≡ n + k → RankedRow arities (joined ts us) m
-joined-ranked {k = k} m (nothing e) r h = let same : k ≡ m = omega arith in rw same at r
-joined-ranked {k = k} m (another {k = i} t ts e) r h = another {n = m} t (joined-ranked (i + k) ts r refl) (omega arith)
+joined-ranked {k = k} m (no-more e) r h = let same : k ≡ m = omega arith in rw same at r
+joined-ranked {k = k} m (one-more {k = i} t ts e) r h = one-more {n = m} t (joined-ranked (i + k) ts r refl) (omega arith)
 
 joined-below : {free : ℕ} (ts us : Terms ℕ) → BelowAll free (joined ts us) → BelowAll free ts × BelowAll free us
 joined-below none us b = (empty, b)
@@ -108,7 +108,7 @@ module _ (arities tokens : List ℕ) where
   whole t = simp mathlib.Core.List.append-nil
 
   single : {at : ℕ} {t : Term ℕ} {rest : List Token} → Spells arities tokens at t rest → SpellsRow arities tokens at 1 (t then none) rest
-  single {t = t} {rest = rest} s = record { ranked = another (s .ranked) (nothing refl) refl; reads = s .reads ∙ ap (λ l. l ++ rest) (sym (whole t)) }
+  single {t = t} {rest = rest} s = record { ranked = one-more (s .ranked) (no-more refl) refl; reads = s .reads ∙ ap (λ l. l ++ rest) (sym (whole t)) }
 
   pub row-begun : (at : ℕ) → Stands arities tokens at → StandsRow arities tokens at 1
   row-begun at s = record {

@@ -1,3 +1,4 @@
 pub mod PassLaws
 pub mod SideLaws
 pub mod SidesTold
+pub mod Fixed

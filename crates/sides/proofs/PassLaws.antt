@@ -9,9 +9,9 @@ use borrow.Author.Tests.{le-leb, lt-leb, lt-ltb, le-ltb}
 use lib.Dec.{eqb, leb, ltb}
 use lib.ListN.{length, drop, take, getD}
 use lib.Seq.{length-take-le, getD-take}
-use Rattle.paper.specs.Judged.{Judged, fault, says, _>>=_}
+use Rattle.paper.specs.Checked.{Checked, fault, says, _>>=_}
 use Rattle.paper.proofs.Smallest.{decided}
-use Rattle.paper.proofs.Judged.{silent}
+use Rattle.paper.proofs.Checked.{silent}
 use Rattle.sides.specs.declared.Open.{Open}
 use Rattle.sides.specs.declared.Open.the-variants.{Terms, Short}
 use Rattle.sides.specs.declared.Lined.{Lined}
@@ -42,12 +42,12 @@ closes-most ar c n m e = elim (decided (ltb c 4)) [
   ]
 ]
 
-open-terms : (j : Judged ℕ) (m : ℕ) → openOf j ≡ Terms m → j ≡ says m
+open-terms : (j : Checked ℕ) (m : ℕ) → openOf j ≡ Terms m → j ≡ says m
 unfolding openOf
 open-terms (says n) m e = let same : n ≡ m = cc in ap says same
 open-terms (fault r) m e = let z : _≡_ {A = ℕ} 0 1 = cc in absurd (omega arith)
 
-open-short : (j : Judged ℕ) → openOf j ≡ Short → (r : ℕ) × (j ≡ fault r)
+open-short : (j : Checked ℕ) → openOf j ≡ Short → (r : ℕ) × (j ≡ fault r)
 unfolding openOf
 open-short (says n) e = let z : _≡_ {A = ℕ} 0 1 = cc in absurd (omega arith)
 open-short (fault r) e = (r, refl)

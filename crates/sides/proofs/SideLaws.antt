@@ -9,22 +9,21 @@ use borrow.Author.Tests.{eqb-true, eqb-false, le-leb, lt-leb, leb-true, leb-fals
 use lib.Dec.{eqb, leb, ltb}
 use lib.ListN.{length, take, getD}
 use lib.Seq.{getD-take}
-use Rattle.theory.specs.Lists.{countFrom, some}
+use Rattle.theory.specs.Lists.{countFrom, any}
 use Rattle.theory.specs.Term.{Term, Terms, var, node, none, _then_, variables, variablesAll}
-use Rattle.theory.specs.Preorder.{Token, function, argument, preorder, preorderAll}
-use Rattle.paper.specs.Judged.{Judged, fault, says, _>>=_, _>>_, _unless_}
+use Rattle.theory.specs.Preorder.{Token, symbol, variable, preorder, preorderAll}
+use Rattle.paper.specs.Checked.{Checked, fault, says, _>>=_, _>>_, _unless_}
 use Rattle.paper.specs.Fields.{all, each, entries, token}
-use Rattle.paper.specs.Sides.{known, Parts, part, before, terms, single, termOf, term, same, bare}
+use Rattle.paper.specs.Sides.{permitted, Parts, part, before, terms, single, termOf, term, same, bare}
 use Rattle.paper.proofs.Smallest.{decided}
-use Rattle.paper.proofs.Judged.{silent, parts}
+use Rattle.paper.proofs.Checked.{silent, parts}
 use Rattle.sides.specs.declared.Lined.{Lined}
 use Rattle.sides.specs.declared.Lined.the-variants.{Count, Broken}
-use Rattle.fields.specs.Value.{code}
+use Rattle.fields.specs.Value.{code, codeOf}
 use Rattle.fields.specs.Lines.{fewCheck}
 use Rattle.sides.specs.Tokens.{codes, tokenOf, tokensOf, closes, openTerms, isOne, stepLined, lined, strange, noStrange}
 use Rattle.fields.proofs.LinesLaws.{few-ok, few-not}
 use Rattle.fields.proofs.Digits.{readOn, read-token}
-use Rattle.fields.specs.Value.{codeOf}
 use Rattle.fields.proofs.Bridge.{values, valuesOf, inRange, ranged, checking}
 use Rattle.fields.proofs.Judges.{bind-same, bind-bind, none-beyond, check-passes, check-fails}
 use Rattle.paper.proofs.Admitted.{same-lists}
@@ -34,7 +33,7 @@ unfolding codes
 codes-length [] = refl
 codes-length (t ∷ ts) = ap suc (codes-length ts)
 
-one-more : (j : Judged Token) (k : Judged (List Token)) → ((j >>= (λ t. says (codeOf t))) >>= (λ w. (k >>= (λ ts. says (codes ts))) >>= (λ ws. says (w ∷ ws)))) ≡ ((j >>= (λ t. k >>= (λ ts. says (t ∷ ts)))) >>= (λ ts. says (codes ts)))
+one-more : (j : Checked Token) (k : Checked (List Token)) → ((j >>= (λ t. says (codeOf t))) >>= (λ w. (k >>= (λ ts. says (codes ts))) >>= (λ ws. says (w ∷ ws)))) ≡ ((j >>= (λ t. k >>= (λ ts. says (t ∷ ts)))) >>= (λ ts. says (codes ts)))
 unfolding _>>=_ codes
 one-more (fault n) k = refl
 one-more (says t) (fault n) = refl
@@ -46,29 +45,29 @@ each-token [] = unfold _>>=_ codes in refl
 each-token (e ∷ es) = rw (read-token e, each-token es) (one-more (token e) (each token es))
 
 -- 5: a symbol not listed, or a variable above 3.
-known-code : (ar : List ℕ) (t : Token) → length ar ≤ 64 → leb (codeOf t) (length ar + 3) ≡ known ar t
-unfolding codeOf code known
-known-code ar (function f) h = elim (decided (ltb f (length ar))) [
+known-code : (ar : List ℕ) (t : Token) → length ar ≤ 64 → leb (codeOf t) (length ar + 3) ≡ permitted ar t
+unfolding codeOf code permitted
+known-code ar (symbol f) h = elim (decided (ltb f (length ar))) [
   | inl p ↦ rw (p, le-leb (f + 4) (length ar + 3) (omega (arith, ltb-true f (length ar) p)))
   | inr p ↦ rw (p, lt-leb (f + 4) (length ar + 3) (omega (arith, ltb-false f (length ar) p)))
 ]
-known-code ar (argument x) h = elim (decided (leb x 3)) [
+known-code ar (variable x) h = elim (decided (leb x 3)) [
   | inl p ↦ rw (p, code) (rw (le-leb x (length ar + 3) (omega (arith, leb-true x 3 p))))
   | inr p ↦ rw (p, code) (rw (lt-leb (x + 100000000) (length ar + 3) (omega arith)))
 ]
 
-all-known : (ar : List ℕ) → length ar ≤ 64 → (ts : List Token) → all (λ c. leb c (length ar + 3)) (codes ts) ≡ all (known ar) ts
+all-known : (ar : List ℕ) → length ar ≤ 64 → (ts : List Token) → all (codes ts) (λ c. leb c (length ar + 3)) ≡ all ts (permitted ar)
 unfolding all codes
 all-known ar h [] = refl
 all-known ar h (t ∷ ts) = rw (known-code ar t h, all-known ar h ts)
 
 -- A line's tokens, with the refusals 4, 5 and 6.
-unfoldable pub tokensIn : List ℕ → List ℕ → Judged (List Token)
-tokensIn ar value = each token (entries value) >>= (λ ts. 5 unless all (known ar) ts >> (6 unless leb (length ts) 24 >> says ts))
+unfoldable pub tokensIn : List ℕ → List ℕ → Checked (List Token)
+tokensIn ar value = each token (entries value) >>= (λ ts. 5 unless all ts (permitted ar) >> (6 unless leb (length ts) 24 >> says ts))
 
-token-test : (ar : List ℕ) → length ar ≤ 64 → (ts : List Token) → (inRange (length ar + 3) (length ar + 3) (codes ts) >>= checking (fewCheck 24)) ≡ ((5 unless all (known ar) ts >> (6 unless leb (length ts) 24 >> says ts)) >>= (λ ts. says (codes ts)))
+token-test : (ar : List ℕ) → length ar ≤ 64 → (ts : List Token) → (inRange (length ar + 3) (length ar + 3) (codes ts) >>= checking (fewCheck 24)) ≡ ((5 unless all ts (permitted ar) >> (6 unless leb (length ts) 24 >> says ts)) >>= (λ ts. says (codes ts)))
 unfolding inRange
-token-test ar h ts = rw (← none-beyond (λ c. leb c (length ar + 3)) (length ar + 3) (λ c. refl) (codes ts), all-known ar h ts) (elim (decided (all (known ar) ts)) [
+token-test ar h ts = rw (← none-beyond (λ c. leb c (length ar + 3)) (length ar + 3) (λ c. refl) (codes ts), all-known ar h ts) (elim (decided (all ts (permitted ar))) [
   | inr p ↦ unfold _unless_ _>>_ _>>=_ in rw p
   | inl p ↦ elim (decided (leb (length ts) 24)) [
     | inl q ↦ unfold _unless_ _>>_ _>>=_ in (rw (p, q) (check-passes (fewCheck 24) (codes ts) (few-ok 24 (codes ts) (omega (arith, codes-length ts, leb-true (length ts) 24 q)))))
@@ -76,7 +75,7 @@ token-test ar h ts = rw (← none-beyond (λ c. leb c (length ar + 3)) (length a
   ]
 ])
 
-says-bind : {X Y : Type 0} (x : X) (f : X → Judged Y) → (says x >>= f) ≡ f x
+says-bind : {X Y : Type 0} (x : X) (f : X → Checked Y) → (says x >>= f) ≡ f x
 unfolding _>>=_
 says-bind x f = refl
 
@@ -87,9 +86,9 @@ tokens-judge ar value h =
     (bind-bind (each token (entries value) >>= (λ ts. says (codes ts))) (inRange (length ar + 3) (length ar + 3)) (checking (fewCheck 24))
     ∙ bind-bind (each token (entries value)) (λ ts. says (codes ts)) (λ ns. inRange (length ar + 3) (length ar + 3) ns >>= checking (fewCheck 24))
     ∙ bind-same (each token (entries value)) _ _ (λ ts. says-bind (codes ts) (λ ns. inRange (length ar + 3) (length ar + 3) ns >>= checking (fewCheck 24)) ∙ token-test ar h ts)
-    ∙ sym (bind-bind (each token (entries value)) (λ ts. 5 unless all (known ar) ts >> (6 unless leb (length ts) 24 >> says ts)) (λ ts. says (codes ts))))
+    ∙ sym (bind-bind (each token (entries value)) (λ ts. 5 unless all ts (permitted ar) >> (6 unless leb (length ts) 24 >> says ts)) (λ ts. says (codes ts))))
 
-after-tests : (b c : Bool) {X : Type 0} (ts : List Token) (f : List Token → Judged X) → ((5 unless b >> (6 unless c >> says ts)) >>= f) ≡ (5 unless b >> (6 unless c >> f ts))
+after-tests : (b c : Bool) {X : Type 0} (ts : List Token) (f : List Token → Checked X) → ((5 unless b >> (6 unless c >> says ts)) >>= f) ≡ (5 unless b >> (6 unless c >> f ts))
 unfolding _unless_ _>>_ _>>=_
 after-tests true true ts f = refl
 after-tests true false ts f = refl
@@ -98,8 +97,8 @@ after-tests false c ts f = refl
 pub term-tokens : (ar value : List ℕ) → term ar value ≡ (tokensIn ar value >>= termOf ar)
 unfolding term tokensIn
 term-tokens ar value =
-    bind-same (each token (entries value)) _ _ (λ ts. sym (after-tests (all (known ar) ts) (leb (length ts) 24) ts (termOf ar)))
-    ∙ sym (bind-bind (each token (entries value)) (λ ts. 5 unless all (known ar) ts >> (6 unless leb (length ts) 24 >> says ts)) (termOf ar))
+    bind-same (each token (entries value)) _ _ (λ ts. sym (after-tests (all ts (permitted ar)) (leb (length ts) 24) ts (termOf ar)))
+    ∙ sym (bind-bind (each token (entries value)) (λ ts. 5 unless all ts (permitted ar) >> (6 unless leb (length ts) 24 >> says ts)) (termOf ar))
 
 tested : (b c : Bool) (us ts : List Token) → (5 unless b >> (6 unless c >> says us)) ≡ says ts → (b ≡ true) × (c ≡ true) × (us ≡ ts)
 unfolding _unless_ _>>_
@@ -107,31 +106,31 @@ tested true true us ts e = (refl, refl, cc)
 tested true false us ts e = absurd (silent e)
 tested false c us ts e = absurd (silent e)
 
-pub tokens-known : (ar value : List ℕ) (ts : List Token) → tokensIn ar value ≡ says ts → (all (known ar) ts ≡ true) × (length ts ≤ 24)
+pub tokens-known : (ar value : List ℕ) (ts : List Token) → tokensIn ar value ≡ says ts → (all ts (permitted ar) ≡ true) × (length ts ≤ 24)
 unfolding tokensIn
 tokens-known ar value ts e =
     let (us, p, q) = parts (each token (entries value)) _ e in
-    let (a, b, c) = tested (all (known ar) us) (leb (length us) 24) us ts q in
+    let (a, b, c) = tested (all us (permitted ar)) (leb (length us) 24) us ts q in
     rw (← c) (a, leb-true (length us) 24 b)
 
 -- Codes are tokens.
-pub decode : (ar : List ℕ) (ts : List Token) → all (known ar) ts ≡ true → tokensOf (codes ts) ≡ ts
+pub decode : (ar : List ℕ) (ts : List Token) → all ts (permitted ar) ≡ true → tokensOf (codes ts) ≡ ts
 unfolding all codes tokensOf
 decode ar [] e = refl
 decode ar (t ∷ ts) e =
-    let (a, b) = and-eq-true-iff (known ar t) (all (known ar) ts) .0 e in
+    let (a, b) = and-eq-true-iff (permitted ar t) (all ts (permitted ar)) .0 e in
     rw (one t a, decode ar ts b)
   where
-    one : (t : Token) → known ar t ≡ true → tokenOf (codeOf t) ≡ t
-    one (function f) k = unfold tokenOf codeOf code in (rw (le-ltb (f + 4) 4 (omega arith), tokenOf) (ap function (omega arith)))
-    one (argument x) k = unfold tokenOf codeOf code known in (rw (k, code) (rw (lt-ltb x 4 (omega (arith, leb-true x 3 k)), tokenOf)))
+    one : (t : Token) → permitted ar t ≡ true → tokenOf (codeOf t) ≡ t
+    one (symbol f) k = unfold tokenOf codeOf code in (rw (le-ltb (f + 4) 4 (omega arith), tokenOf) (ap symbol (omega arith)))
+    one (variable x) k = unfold tokenOf codeOf code permitted in (rw (k, code) (rw (lt-ltb x 4 (omega (arith, leb-true x 3 k)), tokenOf)))
 
 -- 8: how many terms the tokens write.
 size : Terms ℕ → ℕ
 size none = 0
 size (t then ts) = suc (size ts)
 
-enough : ℕ → ℕ → Judged ℕ
+enough : ℕ → ℕ → Checked ℕ
 enough n m = elim (leb n m) [ true ↦ says (m - n) | false ↦ fault 8 ]
 
 enough-suc : (n m : ℕ) → enough n m ≡ enough (suc n) (suc m)
@@ -144,7 +143,7 @@ enough-suc n m = elim (decided (leb n m)) [
 longer : Term ℕ → Parts → Parts
 longer t p = record { front = t then p .front; behind = p .behind }
 
-behind-more : (t : Term ℕ) (j : Judged Parts) → ((j >>= (λ p. says (longer t p))) >>= (λ p. says (size (p .behind)))) ≡ (j >>= (λ p. says (size (p .behind))))
+behind-more : (t : Term ℕ) (j : Checked Parts) → ((j >>= (λ p. says (longer t p))) >>= (λ p. says (size (p .behind)))) ≡ (j >>= (λ p. says (size (p .behind))))
 unfolding _>>=_ longer
 behind-more t (fault n) = refl
 behind-more t (says p) = refl
@@ -155,7 +154,7 @@ part-size zero us = unfold enough _>>=_ in (rw (le-leb 0 (size us) (omega arith)
 part-size (suc n) none = unfold enough _>>=_ in (rw (lt-leb (suc n) 0 (omega arith), enough))
 part-size (suc n) (t then ts) = behind-more t (part n ts) ∙ part-size n ts ∙ enough-suc n (size ts)
 
-node-more : (f : ℕ) (j : Judged Parts) → ((j >>= (λ p. says (node f (p .front) then p .behind))) >>= (λ us. says (size us))) ≡ ((j >>= (λ p. says (size (p .behind)))) >>= (λ n. says (n + 1)))
+node-more : (f : ℕ) (j : Checked Parts) → ((j >>= (λ p. says (node f (p .front) then p .behind))) >>= (λ us. says (size us))) ≡ ((j >>= (λ p. says (size (p .behind)))) >>= (λ n. says (n + 1)))
 unfolding _>>=_ size
 node-more f (fault n) = refl
 node-more f (says p) = ap says (omega arith)
@@ -167,31 +166,31 @@ module _ (arities : List ℕ) (S : ℕ) (few : length (take S arities) ≡ S) wh
     | inr q ↦ unfold enough closes _>>=_ in (rw (le-ltb c 4 h, closes) (rw (q, enough)))
   ])
 
-  before-size : (t : Token) (us : Terms ℕ) → known (take S arities) t ≡ true → (before (take S arities) t us >>= (λ vs. says (size vs))) ≡ closes arities (codeOf t) (size us)
-  unfolding before known codeOf code
-  before-size (argument x) us k =
+  before-size : (t : Token) (us : Terms ℕ) → permitted (take S arities) t ≡ true → (before (take S arities) t us >>= (λ vs. says (size vs))) ≡ closes arities (codeOf t) (size us)
+  unfolding before permitted codeOf code
+  before-size (variable x) us k =
       rw (k, code) (unfold closes _>>=_ size in (rw (lt-ltb x 4 (omega (arith, leb-true x 3 k)), closes) (ap says (omega arith))))
-  before-size (function f) us k =
+  before-size (symbol f) us k =
       let arity = getD-take S arities f 0 (omega (arith, ltb-true f (length (take S arities)) k)) in
       node-more f (part (getD (take S arities) f 0) us) ∙ rw (part-size (getD (take S arities) f 0) us, arity) (closes-at (f + 4) f (size us) (omega arith) (omega arith))
 
-  terms-size : (ts : List Token) → all (known (take S arities)) ts ≡ true → (terms (take S arities) ts >>= (λ us. says (size us))) ≡ openTerms arities (codes ts)
+  terms-size : (ts : List Token) → all ts (permitted (take S arities)) ≡ true → (terms (take S arities) ts >>= (λ us. says (size us))) ≡ openTerms arities (codes ts)
   unfolding terms all codes openTerms
   terms-size [] e = unfold _>>=_ size in refl
   terms-size (t ∷ ts) e =
-      let (a, b) = and-eq-true-iff (known (take S arities) t) (all (known (take S arities)) ts) .0 e in
+      let (a, b) = and-eq-true-iff (permitted (take S arities) t) (all ts (permitted (take S arities))) .0 e in
       bind-bind (terms (take S arities) ts) (before (take S arities) t) (λ us. says (size us))
       ∙ bind-same (terms (take S arities) ts) _ _ (λ us. before-size t us a ∙ sym (says-bind (size us) (closes arities (codeOf t))))
       ∙ sym (bind-bind (terms (take S arities) ts) (λ us. says (size us)) (closes arities (codeOf t)))
-      ∙ ap (λ (j : Judged ℕ). j >>= closes arities (codeOf t)) (terms-size ts b)
+      ∙ ap (λ (j : Checked ℕ). j >>= closes arities (codeOf t)) (terms-size ts b)
 
 -- Only 8 can refuse them.
-faults : {X Y : Type 0} (j : Judged X) (f : X → Judged Y) (m : ℕ) → (j >>= f) ≡ fault m → ((j ≡ fault m) ⊎ ((x : X) × (j ≡ says x) × (f x ≡ fault m)))
+faults : {X Y : Type 0} (j : Checked X) (f : X → Checked Y) (m : ℕ) → (j >>= f) ≡ fault m → ((j ≡ fault m) ⊎ ((x : X) × (j ≡ says x) × (f x ≡ fault m)))
 unfolding _>>=_
 faults (fault n) f m e = inl (let same : n ≡ m = cc in ap fault same)
 faults (says x) f m e = inr (x, refl, e)
 
-eight : {X : Type 0} {x : X} {m : ℕ} → _≡_ {A = Judged X} (says x) (fault m) → m ≡ 8
+eight : {X : Type 0} {x : X} {m : ℕ} → _≡_ {A = Checked X} (says x) (fault m) → m ≡ 8
 eight e = absurd (silent (sym e))
 
 part-eight : (n : ℕ) (us : Terms ℕ) (m : ℕ) → part n us ≡ fault m → m ≡ 8
@@ -206,11 +205,11 @@ part-eight (suc n) (t then ts) m e = elim (faults (part n ts) _ m e) [
 terms-eight : (ar : List ℕ) (ts : List Token) (m : ℕ) → terms ar ts ≡ fault m → m ≡ 8
 unfolding terms before
 terms-eight ar [] m e = eight e
-terms-eight ar (argument x ∷ ts) m e = elim (faults (terms ar ts) _ m e) [
+terms-eight ar (variable x ∷ ts) m e = elim (faults (terms ar ts) _ m e) [
   | inl p ↦ terms-eight ar ts m p
   | inr (us, p, q) ↦ eight q
 ]
-terms-eight ar (function f ∷ ts) m e = elim (faults (terms ar ts) _ m e) [
+terms-eight ar (symbol f ∷ ts) m e = elim (faults (terms ar ts) _ m e) [
   | inl p ↦ terms-eight ar ts m p
   | inr (us, p, q) ↦ elim (faults (part (getD ar f 0) us) _ m q) [
     | inl r ↦ part-eight (getD ar f 0) us m r
@@ -231,35 +230,35 @@ single-not (t then none) e = absurd (eqb-false 1 1 e refl)
 single-not (t then (u then us)) e = refl
 
 module _ (ar : List ℕ) (ts : List Token) where
-  one-from : (j : Judged (Terms ℕ)) → isOne (j >>= (λ us. says (size us))) ≡ true → (t : Term ℕ) × ((j >>= single) ≡ says t)
+  one-from : (j : Checked (Terms ℕ)) → isOne (j >>= (λ us. says (size us))) ≡ true → (t : Term ℕ) × ((j >>= single) ≡ says t)
   unfolding isOne _>>=_
   one-from (fault n) e = absurd (false≢true e)
   one-from (says us) e = single-one us e
 
-  not-from : (j : Judged (Terms ℕ)) → ((m : ℕ) → j ≡ fault m → m ≡ 8) → isOne (j >>= (λ us. says (size us))) ≡ false → (j >>= single) ≡ fault 8
+  not-from : (j : Checked (Terms ℕ)) → ((m : ℕ) → j ≡ fault m → m ≡ 8) → isOne (j >>= (λ us. says (size us))) ≡ false → (j >>= single) ≡ fault 8
   unfolding isOne _>>=_
   not-from (fault n) h e = ap fault (h n refl)
   not-from (says us) h e = single-not us e
 
-pub one-term : (arities : List ℕ) (S : ℕ) (few : length (take S arities) ≡ S) (ts : List Token) → all (known (take S arities)) ts ≡ true → isOne (openTerms arities (codes ts)) ≡ true → (t : Term ℕ) × (termOf (take S arities) ts ≡ says t)
+pub one-term : (arities : List ℕ) (S : ℕ) (few : length (take S arities) ≡ S) (ts : List Token) → all ts (permitted (take S arities)) ≡ true → isOne (openTerms arities (codes ts)) ≡ true → (t : Term ℕ) × (termOf (take S arities) ts ≡ says t)
 unfolding termOf
 one-term arities S few ts k e = one-from (take S arities) ts (terms (take S arities) ts) (ap isOne (terms-size arities S few ts k) ∙ e)
 
-pub not-term : (arities : List ℕ) (S : ℕ) (few : length (take S arities) ≡ S) (ts : List Token) → all (known (take S arities)) ts ≡ true → isOne (openTerms arities (codes ts)) ≡ false → termOf (take S arities) ts ≡ fault 8
+pub not-term : (arities : List ℕ) (S : ℕ) (few : length (take S arities) ≡ S) (ts : List Token) → all ts (permitted (take S arities)) ≡ true → isOne (openTerms arities (codes ts)) ≡ false → termOf (take S arities) ts ≡ fault 8
 unfolding termOf
 not-term arities S few ts k e = not-from (take S arities) ts (terms (take S arities) ts) (terms-eight (take S arities) ts) (ap isOne (terms-size arities S few ts k) ∙ e)
 
 -- The variables of a term are those of its tokens.
 vars : List Token → List ℕ
 vars [] = []
-vars (argument x ∷ ts) = x ∷ vars ts
-vars (function f ∷ ts) = vars ts
+vars (variable x ∷ ts) = x ∷ vars ts
+vars (symbol f ∷ ts) = vars ts
 
 vars-append : (ts us : List Token) → vars (ts ++ us) ≡ vars ts ++ vars us
 unfolding vars
 vars-append [] us = refl
-vars-append (argument x ∷ ts) us = ap (λ xs. x ∷ xs) (vars-append ts us)
-vars-append (function f ∷ ts) us = vars-append ts us
+vars-append (variable x ∷ ts) us = ap (λ xs. x ∷ xs) (vars-append ts us)
+vars-append (symbol f ∷ ts) us = vars-append ts us
 
 mutual
   unfolding vars preorder variables
@@ -272,18 +271,18 @@ mutual
   row-vars none = refl
   row-vars (t then ts) = rw (term-vars t, row-vars ts) (sym (vars-append (preorder t) (preorderAll ts)))
 
-low-code : (x : ℕ) → leb x 3 ≡ true → codeOf (argument x) ≡ x
+low-code : (x : ℕ) → leb x 3 ≡ true → codeOf (variable x) ≡ x
 unfolding codeOf code
 low-code x k = rw (k, code)
 
 -- 9: bare, or not in order.
-pub bare-first : (ar : List ℕ) (t : Term ℕ) → all (known ar) (preorder t) ≡ true → getD (codes (preorder t)) 0 0 < 4 → bare t ≡ true
+pub bare-first : (ar : List ℕ) (t : Term ℕ) → all (preorder t) (permitted ar) ≡ true → getD (codes (preorder t)) 0 0 < 4 → bare t ≡ true
 unfolding preorder codes all bare codeOf code
 bare-first ar (var x) k h = refl
 bare-first ar (node f ts) k h = absurd (omega arith)
 
-pub not-bare : (ar : List ℕ) (t : Term ℕ) → all (known ar) (preorder t) ≡ true → 4 ≤ getD (codes (preorder t)) 0 0 → bare t ≡ false
-unfolding preorder codes all bare known
+pub not-bare : (ar : List ℕ) (t : Term ℕ) → all (preorder t) (permitted ar) ≡ true → 4 ≤ getD (codes (preorder t)) 0 0 → bare t ≡ false
+unfolding preorder codes all bare permitted
 not-bare ar (var x) k h =
     let (a, b) = and-eq-true-iff (leb x 3) true .0 k in
     absurd (omega (arith, low-code x a, leb-true x 3 a))
@@ -293,15 +292,15 @@ ordered : Bool → ℕ → Lined
 ordered true n = Count n
 ordered false n = Broken
 
-lined-vars : (ar : List ℕ) (ts : List Token) (k : ℕ) → all (known ar) ts ≡ true → lined k (codes ts) ≡ ordered (same (vars ts) (countFrom k (length (vars ts)))) (k + length (vars ts))
-unfolding ordered all codes vars countFrom same lined known
+lined-vars : (ar : List ℕ) (ts : List Token) (k : ℕ) → all ts (permitted ar) ≡ true → lined k (codes ts) ≡ ordered (same (vars ts) (countFrom k (length (vars ts)))) (k + length (vars ts))
+unfolding ordered all codes vars countFrom same lined permitted
 lined-vars ar [] k e = ap Count (omega arith)
-lined-vars ar (function f ∷ ts) k e =
-    let (a, b) = and-eq-true-iff (ltb f (length ar)) (all (known ar) ts) .0 e in
-    let s : stepLined (codeOf (function f)) k ≡ Count k = unfold stepLined codeOf code in (rw (le-ltb (f + 4) 4 (omega arith), stepLined)) in
+lined-vars ar (symbol f ∷ ts) k e =
+    let (a, b) = and-eq-true-iff (ltb f (length ar)) (all ts (permitted ar)) .0 e in
+    let s : stepLined (codeOf (symbol f)) k ≡ Count k = unfold stepLined codeOf code in (rw (le-ltb (f + 4) 4 (omega arith), stepLined)) in
     rw (s, lined) (lined-vars ar ts k b)
-lined-vars ar (argument x ∷ ts) k e =
-    let (a, b) = and-eq-true-iff (leb x 3) (all (known ar) ts) .0 e in
+lined-vars ar (variable x ∷ ts) k e =
+    let (a, b) = and-eq-true-iff (leb x 3) (all ts (permitted ar)) .0 e in
     let low = lt-ltb x 4 (omega (arith, leb-true x 3 a)) in
     rw (low-code x a) (elim (decided (eqb x k)) [
       | inl p ↦
@@ -314,7 +313,7 @@ lined-vars ar (argument x ∷ ts) k e =
           rw (s, lined) (rw p)
     ])
 
-module _ (ar : List ℕ) (t : Term ℕ) (k : all (known ar) (preorder t) ≡ true) where
+module _ (ar : List ℕ) (t : Term ℕ) (k : all (preorder t) (permitted ar) ≡ true) where
   pub in-order : (v : ℕ) → lined 0 (codes (preorder t)) ≡ Count v → (same (variables t) (countFrom 0 (length (variables t))) ≡ true) × (variables t ≡ countFrom 0 v)
   unfolding ordered
   in-order v e = elim (decided (same (vars (preorder t)) (countFrom 0 (length (vars (preorder t)))))) [
@@ -334,8 +333,8 @@ module _ (ar : List ℕ) (t : Term ℕ) (k : all (known ar) (preorder t) ≡ tru
   ]
 
 -- 10: a variable that the left side lacks.
-some-count : (x a v : ℕ) → some (countFrom a v) (eqb x) ≡ (leb a x && ltb x (a + v))
-unfolding some countFrom
+some-count : (x a v : ℕ) → any (countFrom a v) (eqb x) ≡ (leb a x && ltb x (a + v))
+unfolding any countFrom
 some-count x a zero = elim (decided (leb a x)) [
   | inl p ↦ rw (p, le-ltb x (a + 0) (omega (arith, leb-true a x p)))
   | inr p ↦ rw p
@@ -351,20 +350,20 @@ some-count x a (suc v) = elim (decided (eqb x a)) [
     differ : (a x : ℕ) → a ≤ x → (x ≡ a → ⊥) → suc a ≤ x
     differ a x l e = omega (arith, e)
 
-strange-vars : (ar : List ℕ) (v : ℕ) (ts : List Token) → all (known ar) ts ≡ true → noStrange v (codes ts) ≡ all (λ x. some (countFrom 0 v) (eqb x)) (vars ts)
-unfolding all codes vars noStrange known strange
+strange-vars : (ar : List ℕ) (v : ℕ) (ts : List Token) → all ts (permitted ar) ≡ true → noStrange v (codes ts) ≡ all (vars ts) (λ x. any (countFrom 0 v) (eqb x))
+unfolding all codes vars noStrange permitted strange
 strange-vars ar v [] e = refl
-strange-vars ar v (function f ∷ ts) e =
-    let (a, b) = and-eq-true-iff (ltb f (length ar)) (all (known ar) ts) .0 e in
-    let s : strange v (codeOf (function f)) ≡ false = unfold codeOf code in (rw (le-ltb (f + 4) 4 (omega arith))) in
+strange-vars ar v (symbol f ∷ ts) e =
+    let (a, b) = and-eq-true-iff (ltb f (length ar)) (all ts (permitted ar)) .0 e in
+    let s : strange v (codeOf (symbol f)) ≡ false = unfold codeOf code in (rw (le-ltb (f + 4) 4 (omega arith))) in
     rw (s, noStrange) (strange-vars ar v ts b)
-strange-vars ar v (argument x ∷ ts) e =
-    let (a, b) = and-eq-true-iff (leb x 3) (all (known ar) ts) .0 e in
+strange-vars ar v (variable x ∷ ts) e =
+    let (a, b) = and-eq-true-iff (leb x 3) (all ts (permitted ar)) .0 e in
     let low = lt-ltb x 4 (omega (arith, leb-true x 3 a)) in
     rw (low-code x a, some-count x 0 v, le-leb 0 x (omega arith)) (elim (decided (leb v x)) [
       | inl p ↦ rw (low, p, noStrange) (rw (le-ltb x (0 + v) (omega (arith, leb-true v x p))))
       | inr p ↦ rw (low, p, noStrange) (rw (lt-ltb x (0 + v) (omega (arith, leb-false v x p))) (strange-vars ar v ts b))
     ])
 
-pub right-known : (ar : List ℕ) (l r : Term ℕ) (v : ℕ) → all (known ar) (preorder r) ≡ true → variables l ≡ countFrom 0 v → all (λ x. some (variables l) (eqb x)) (variables r) ≡ noStrange v (codes (preorder r))
+pub right-known : (ar : List ℕ) (l r : Term ℕ) (v : ℕ) → all (preorder r) (permitted ar) ≡ true → variables l ≡ countFrom 0 v → all (variables r) (λ x. any (variables l) (eqb x)) ≡ noStrange v (codes (preorder r))
 right-known ar l r v k e = rw (e, term-vars r) (sym (strange-vars ar v (preorder r) k))

@@ -7,14 +7,14 @@ use native.Mathlib.Omega.{arith}
 use borrow.Author.Tests.{ltb-true, eqb-true}
 use lib.Dec.{eqb, ltb}
 use lib.ListN.{length, drop, take, getD, replicate}
-use Rattle.theory.specs.Lists.{countFrom, some}
+use Rattle.theory.specs.Lists.{countFrom, any}
 use Rattle.theory.specs.Term.{Term, variables}
 use Rattle.theory.specs.Preorder.{Token, preorder}
-use Rattle.paper.specs.Judged.{Judged, fault, says, _>>=_, _>>_, _unless_}
+use Rattle.paper.specs.Checked.{Checked, fault, says, _>>=_, _>>_, _unless_}
 use Rattle.paper.specs.Lines.{Said, after, ended}
 use Rattle.paper.specs.Fields.{all}
-use Rattle.paper.specs.Sides.{known, termOf, same, bare, leftSide, rightSide}
-use Rattle.paper.proofs.Judged.{silent, parts}
+use Rattle.paper.specs.Sides.{permitted, termOf, same, bare, leftSide, rightSide}
+use Rattle.paper.proofs.Checked.{silent, parts}
 use Rattle.paper.proofs.Preorder.{preorder-exact}
 use Rattle.fields.specs.declared.cursor.Cursor.{Cursor}
 use Rattle.fields.specs.declared.lists.Items.{Items}
@@ -27,8 +27,9 @@ use Rattle.fields.specs.Line.{openAt}
 use Rattle.fields.specs.Listed.{laid}
 use Rattle.fields.specs.Lines.{entryLine, checked, fewCheck, itemsOf}
 use Rattle.fields.specs.Trans.{refusalIn}
+use Rattle.fields.specs.Padded.{padded}
 use Rattle.fields.specs.Said.{keyed, saidLine}
-use Rattle.sides.specs.Tokens.{spoken, meant, openTerms, isOne, stepLined, lined, noStrange, saidEnds, saidSide, noSide, codes, CountedEnds, CountedSide, WholeEnds, WholeSide}
+use Rattle.sides.specs.Tokens.{spoken, meant, openTerms, isOne, stepLined, lined, noStrange, saidEnds, saidSide, noSide, codes, CountedEnds, CountedSide, CarriedEnds, WholeEnds, WholeSide, LeftLine, RightLine}
 use Rattle.fields.proofs.LinesLaws.{got-line}
 use Rattle.fields.proofs.MergeLaws.{take-items}
 use Rattle.fields.proofs.TellLaws.{tell-checked, tell-few, bad-line, within-opened}
@@ -44,23 +45,24 @@ laid-first [] = refl
 laid-first (v ∷ ns) = refl
 
 -- A line that says something was judged at some value.
-pub judged-at : {X : Type 0} (key : List ℕ) (judge : List ℕ → Judged X) (bs : List ℕ) (s : Said X) → keyed key judge bs ≡ says s → (value : List ℕ) × (judge value ≡ says (s .what))
+pub judged-at : {X : Type 0} (key : List ℕ) (judge : List ℕ → Checked X) (bs : List ℕ) (s : Said X) → keyed key judge bs ≡ says s → (value : List ℕ) × (judge value ≡ says (s .what))
 unfolding keyed
 judged-at key judge bs s e =
     let (b, p, f) = parts (after key bs) _ e in
     let (l, q, g) = parts (ended b) _ f in
-    let (x, r, h) = parts (judge (l .value)) _ g in
-    (l .value, r ∙ ap says (let same : _≡_ {A = Said _} (record { what = x; rest = l .rest }) s = cc in ap (λ (t : Said _). t .what) same))
+    let (x, r, h) = parts (judge (l .what)) _ g in
+    (l .what, r ∙ ap says (let same : _≡_ {A = Said _} (record { what = x; rest = l .rest }) s = cc in ap (λ (t : Said _). t .what) same))
 
 -- What a line's tokens are.
 pub record TokenLine (file key arities : List ℕ) (S at : ℕ) (it : Items) (n : ℕ) (d : Cursor) : Type 0 where
   pub ts : List Token
-  pub listed : all (known (take S arities)) ts ≡ true
+  pub listed : all ts (permitted (take S arities)) ≡ true
   pub are : take n (it .items) ≡ codes ts
   pub few : n ≤ 24
   pub first : getD (it .items) 0 0 ≡ getD (codes ts) 0 0
   pub low : (k : ℕ) → getD (it .items) k 0 < 68
   pub many : n ≡ length ts
+  pub behind : it .items ≡ padded 64 (take n (it .items))
   pub placed : d .at ≤ length file
   pub said : keyed key (tokensIn (take S arities)) (drop at file) ≡ says (record { what = ts; rest = drop (d .at) file })
 
@@ -87,15 +89,17 @@ module _ (file key arities : List ℕ) (S at : ℕ) (few : length (take S aritie
       let (s, p, q) = parts (keyed key (tokensIn (take S arities)) (drop at file)) _ (sym coded-said ∙ ap (saidLine file) (g .is)) in
       let (c, r) = onward-says s (g .ns) (drop (d .at) file) q in
       let (value, j) = judged-at key (tokensIn (take S arities)) (drop at file) s p in
+      let t = take-items (g .ns) (it .items) n (g .count) (omega (arith, g .count)) (g .items) in
       let bounded = within-opened 1 (S + 3) (S + 3) (S + 3) (omega arith) (omega arith) false file (openAt key file at) (g .ns) (d .at) l in
       record {
         ts = s .what;
         listed = tokens-known (take S arities) value (s .what) j .0;
-        are = take-items (g .ns) (it .items) n (g .count) (omega (arith, g .count)) (g .items) ∙ sym c;
+        are = t ∙ sym c;
         few = omega (arith, g .count);
         first = ap (λ (l : List ℕ). getD l 0 0) (g .items) ∙ laid-first (g .ns) ∙ ap (λ (l : List ℕ). getD l 0 0) (sym c);
         low = λ k. rw (g .items, laid-padded 64 (g .ns)) (omega (arith, padded-low (S + 3) 64 (g .ns) bounded k));
         many = g .count ∙ ap length (sym c) ∙ codes-length (s .what);
+        behind = g .items ∙ laid-padded 64 (g .ns) ∙ ap (padded 64) (sym t);
         placed = place-within 1 key (S + 3) (S + 3) false file at (g .ns) (d .at) l;
         said = p ∙ ap says (same-said s (drop (d .at) file) r);
       }
@@ -103,29 +107,29 @@ module _ (file key arities : List ℕ) (S at : ℕ) (few : length (take S aritie
       same-said : (s : Said (List Token)) (rest : List ℕ) → s .rest ≡ rest → s ≡ record { what = s .what; rest = rest }
       same-said s rest r = rw (← r)
 
-  fault-onward : {Y : Type 0} (j : Judged (Said (List Token))) (r : ℕ) (f : List Token → Judged Y) → (j >>= onward (λ ts. says (codes ts))) ≡ fault r → (j >>= onward f) ≡ fault r
+  fault-onward : {Y : Type 0} (j : Checked (Said (List Token))) (r : ℕ) (f : List Token → Checked Y) → (j >>= onward (λ ts. says (codes ts))) ≡ fault r → (j >>= onward f) ≡ fault r
   unfolding onward found _>>=_
   fault-onward (fault n) r f e = let same : n ≡ r = cc in ap fault same
   fault-onward (says s) r f e = absurd (silent (sym e))
 
-  pub token-refused : {Y : Type 0} (f : List Token → Judged Y) (it : Items) (r : ℕ) → it ≡ itemsOf (checked (fewCheck 24) (entryLine 1 key (S + 3) (S + 3) false file at)) → it .answer ≡ Refused r
+  pub token-refused : {Y : Type 0} (f : List Token → Checked Y) (it : Items) (r : ℕ) → it ≡ itemsOf (checked (fewCheck 24) (entryLine 1 key (S + 3) (S + 3) false file at)) → it .answer ≡ Refused r
       → keyed key (λ value. tokensIn (take S arities) value >>= f) (drop at file) ≡ fault (refusalIn (it .answer))
   unfolding saidLine refusalIn
   token-refused f it r h e =
       let b = bad-line _ it r h e in
       rw e (sym (judge-more key (tokensIn (take S arities)) f (drop at file)) ∙ fault-onward (keyed key (tokensIn (take S arities)) (drop at file)) r f (sym coded-said ∙ ap (saidLine file) b))
 
-  pub token-said : {Y : Type 0} (f : List Token → Judged Y) (it : Items) (n : ℕ) (d : Cursor) → (t : TokenLine file key arities S at it n d)
+  pub token-said : {Y : Type 0} (f : List Token → Checked Y) (it : Items) (n : ℕ) (d : Cursor) → (t : TokenLine file key arities S at it n d)
       → keyed key (λ value. tokensIn (take S arities) value >>= f) (drop at file) ≡ found (drop (d .at) file) (f (t .ts))
   unfolding onward _>>=_
   token-said f it n d t = sym (judge-more key (tokensIn (take S arities)) f (drop at file)) ∙ rw (t .said)
 
 -- A left side, from its tokens.
-unfoldable leftOf : List ℕ → List Token → Judged (Term ℕ)
+unfoldable leftOf : List ℕ → List Token → Checked (Term ℕ)
 leftOf ar ts = termOf ar ts >>= (λ l. 9 unless (not (bare l) && same (variables l) (countFrom 0 (length (variables l)))) >> says l)
 
-unfoldable rightOf : List ℕ → Term ℕ → List Token → Judged (Term ℕ)
-rightOf ar l ts = termOf ar ts >>= (λ r. 10 unless all (λ x. some (variables l) (eqb x)) (variables r) >> says r)
+unfoldable rightOf : List ℕ → Term ℕ → List Token → Checked (Term ℕ)
+rightOf ar l ts = termOf ar ts >>= (λ r. 10 unless all (variables r) (λ x. any (variables l) (eqb x)) >> says r)
 
 left-tokens : (ar value : List ℕ) → (tokensIn ar value >>= leftOf ar) ≡ leftSide ar value
 unfolding leftSide leftOf
@@ -133,15 +137,27 @@ left-tokens ar value = sym (rw (term-tokens ar value) (bind-bind (tokensIn ar va
 
 right-tokens : (ar value : List ℕ) (l : Term ℕ) → (tokensIn ar value >>= rightOf ar l) ≡ rightSide ar l value
 unfolding rightSide rightOf
-right-tokens ar value l = sym (rw (term-tokens ar value) (bind-bind (tokensIn ar value) (termOf ar) (λ r. 10 unless all (λ x. some (variables l) (eqb x)) (variables r) >> says r)))
+right-tokens ar value l = sym (rw (term-tokens ar value) (bind-bind (tokensIn ar value) (termOf ar) (λ r. 10 unless all (variables r) (λ x. any (variables l) (eqb x)) >> says r)))
 
-pub none-counted : (ar : List ℕ) (r : Side) (k : ℕ) → r ≡ noSide k → CountedSide ar r
-unfolding CountedSide CountedEnds noSide
-none-counted ar r k e = rw e tt
+-- a line that is refused
+module _ (file key ar : List ℕ) (at : ℕ) (r : Side) (k : ℕ) (e : r ≡ noSide k) where
+  none-counted : CountedSide ar r
+  unfolding CountedSide CountedEnds noSide
+  none-counted = rw e tt
 
-pub none-whole : (file ar : List ℕ) (r : Side) (k : ℕ) → r ≡ noSide k → WholeSide file ar r
-unfolding WholeSide WholeEnds noSide
-none-whole file ar r k e = rw e tt
+  none-carried : (v : ℕ) → CarriedEnds v (r .answer)
+  unfolding CarriedEnds noSide
+  none-carried v = rw e tt
+
+  none-whole : WholeSide file ar r
+  unfolding WholeSide WholeEnds noSide
+  none-whole = rw e refl
+
+  pub no-left : saidSide file ar r ≡ keyed key (leftSide ar) (drop at file) → LeftLine file key ar at r
+  no-left h = record { said = h; counted = none-counted; whole = none-whole }
+
+  pub no-right : (v : ℕ) → ((l : Term ℕ) → variables l ≡ countFrom 0 v → saidSide file ar r ≡ keyed key (rightSide ar l) (drop at file)) → RightLine file key ar at v r
+  no-right v h = record { said = h; carried = none-carried v; whole = none-whole }
 
 -- variables that come in order are four at most
 step-few : (c k w : ℕ) → k ≤ 4 → stepLined c k ≡ Count w → w ≤ 4
@@ -213,7 +229,7 @@ module _ (file key arities : List ℕ) (S at : ℕ) (fits : S ≤ length arities
       order : preorder (whole .0) ≡ t .ts
       order = preorder-exact (take S arities) (t .ts) (whole .0) .0 (whole .1) .0
 
-      listed : all (known (take S arities)) (preorder (whole .0)) ≡ true
+      listed : all (preorder (whole .0)) (permitted (take S arities)) ≡ true
       listed = rw order (t .listed)
 
       left-fault : (not (bare (whole .0)) && same (variables (whole .0)) (countFrom 0 (length (variables (whole .0))))) ≡ false → r ≡ noSide 9 → saidSide file (take S arities) r ≡ keyed key (leftSide (take S arities)) (drop at file)
@@ -236,24 +252,24 @@ module _ (file key arities : List ℕ) (S at : ℕ) (fits : S ≤ length arities
       meaning = rw (t .are, decode (take S arities) (t .ts) (t .listed), whole .1)
 
       -- a left side with v variables in order
-      pub left-good : (v : ℕ) → r ≡ record { answer = GotSide n v d; tokens = it .items } → 4 ≤ getD (it .items) 0 0 → lined 0 (take n (it .items)) ≡ Count v → saidSide file (take S arities) r ≡ keyed key (leftSide (take S arities)) (drop at file)
+      left-good : (v : ℕ) → r ≡ record { answer = GotSide n v d; tokens = it .items } → 4 ≤ getD (it .items) 0 0 → lined 0 (take n (it .items)) ≡ Count v → saidSide file (take S arities) r ≡ keyed key (leftSide (take S arities)) (drop at file)
       unfolding saidSide saidEnds leftOf found _>>=_ _>>_ _unless_
       left-good v e h w =
           let b = not-bare (take S arities) (whole .0) listed (rw order (rw (t .first) at h)) in
           let c = in-order (take S arities) (whole .0) listed v (rw order (ap (lined 0) (sym (t .are)) ∙ w)) in
           rw (e, meaning) (sym (left-is ∙ rw (whole .1) (rw (b, c .0))))
 
-      pub left-counted : (v : ℕ) → r ≡ record { answer = GotSide n v d; tokens = it .items } → lined 0 (take n (it .items)) ≡ Count v → CountedSide (take S arities) r
+      left-counted : (v : ℕ) → r ≡ record { answer = GotSide n v d; tokens = it .items } → lined 0 (take n (it .items)) ≡ Count v → CountedSide (take S arities) r
       unfolding CountedSide CountedEnds
       left-counted v e w =
           let c = in-order (take S arities) (whole .0) listed v (rw order (ap (lined 0) (sym (t .are)) ∙ w)) in
           rw (e, meaning) (c .1, lined-few (take n (it .items)) 0 v (omega arith) w)
 
-      pub side-whole : (v : ℕ) → r ≡ record { answer = GotSide n v d; tokens = it .items } → WholeSide file (take S arities) r
+      side-whole : (v : ℕ) → r ≡ record { answer = GotSide n v d; tokens = it .items } → WholeSide file (take S arities) r
       unfolding WholeSide WholeEnds
       side-whole v e =
           let p : preorder (meant (take S arities) (take n (it .items))) ≡ t .ts = ap preorder meaning ∙ order in
-          rw e (record { are = t .are ∙ ap codes (sym p); many = t .many ∙ ap length (sym p); few = t .few; low = t .low; placed = t .placed })
+          rw e (record { are = t .are ∙ ap codes (sym p); many = t .many ∙ ap length (sym p); few = t .few; low = t .low; behind = t .behind; placed = t .placed })
 
       pub right-strange : (l : Term ℕ) (v : ℕ) → variables l ≡ countFrom 0 v → r ≡ noSide 10 → noStrange v (take n (it .items)) ≡ false → saidSide file (take S arities) r ≡ keyed key (rightSide (take S arities) l) (drop at file)
       unfolding rightOf found _>>=_ _>>_ _unless_
@@ -262,9 +278,16 @@ module _ (file key arities : List ℕ) (S at : ℕ) (fits : S ≤ length arities
           let c = right-known (take S arities) l (whole .0) v listed k ∙ q in
           side-none file _ r 10 e ∙ sym (right-is l ∙ rw (whole .1) (rw c))
 
-      pub right-good : (l : Term ℕ) (v : ℕ) → variables l ≡ countFrom 0 v → r ≡ record { answer = GotSide n v d; tokens = it .items } → noStrange v (take n (it .items)) ≡ true → saidSide file (take S arities) r ≡ keyed key (rightSide (take S arities) l) (drop at file)
+      right-good : (l : Term ℕ) (v : ℕ) → variables l ≡ countFrom 0 v → r ≡ record { answer = GotSide n v d; tokens = it .items } → noStrange v (take n (it .items)) ≡ true → saidSide file (take S arities) r ≡ keyed key (rightSide (take S arities) l) (drop at file)
       unfolding saidSide saidEnds rightOf found _>>=_ _>>_ _unless_
       right-good l v k e w =
           let q : noStrange v (codes (preorder (whole .0))) ≡ true = rw order (ap (noStrange v) (sym (t .are)) ∙ w) in
           let c = right-known (take S arities) l (whole .0) v listed k ∙ q in
           rw (e, meaning) (sym (right-is l ∙ rw (whole .1) (rw c)))
+
+      pub whole-left : (v : ℕ) → r ≡ record { answer = GotSide n v d; tokens = it .items } → 4 ≤ getD (it .items) 0 0 → lined 0 (take n (it .items)) ≡ Count v → LeftLine file key (take S arities) at r
+      whole-left v e h w = record { said = left-good v e h w; counted = left-counted v e w; whole = side-whole v e }
+
+      pub whole-right : (v : ℕ) → r ≡ record { answer = GotSide n v d; tokens = it .items } → noStrange v (take n (it .items)) ≡ true → RightLine file key (take S arities) at v r
+      unfolding CarriedEnds
+      whole-right v e w = record { said = λ l k. right-good l v k e w; carried = rw e refl; whole = side-whole v e }

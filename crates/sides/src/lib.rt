@@ -1,14 +1,9 @@
 // The sides of rules: tokens that are one term, and their variables.
 ghost use mathlib.Core.Path.{_≡_};
 ghost use Prim.Native.Nat.{ℕ, _+_, _-_, _≤_, _<_};
-ghost use lib.ListN.{length, drop, getD, take};
+ghost use lib.ListN.{length, getD, take};
 ghost use mathlib.Core.Bool.{true, false};
-ghost use Rattle.paper.specs.Tables.{one};
-ghost use Rattle.fields.specs.Said.{keyed};
-ghost use Rattle.theory.specs.Term.{Term, variables};
-ghost use Rattle.theory.specs.Lists.{countFrom};
-ghost use Rattle.paper.specs.Sides.{leftSide, rightSide};
-ghost use Rattle.sides.specs.Tokens.{closes, openTerms, openOf, isOne, stepLined, lined, strange, noStrange, saidSide, noSide, CountedSide, WholeSide};
+ghost use Rattle.sides.specs.Tokens.{closes, openTerms, openOf, isOne, stepLined, lined, strange, noStrange, noSide, LeftLine, RightLine};
 use fields::cursor::Cursor;
 use fields::lists::Listed;
 use fields::lists::list_refusal;
@@ -159,7 +154,7 @@ fn no_side(refusal: u8) -> Side
 pub fn left_line(c: Cursor, file: &[u8], key: &[u8], arities: &[u8; 64], symbols: u32) -> Side
     requires { ⌜ symbols ≤ 64 ⌝ }
     requires { ⌜ symbols ≤ length (now arities) ⌝ }
-    ensures { λ r. ⌜ (saidSide (now (file .entry)) (take symbols (now (arities .entry))) r ≡ keyed (now (key .entry)) (leftSide (take symbols (now (arities .entry)))) (drop (c .at) (now (file .entry)))) × CountedSide (take symbols (now (arities .entry))) r × WholeSide (now (file .entry)) (take symbols (now (arities .entry))) r ⌝ }
+    ensures { λ r. ⌜ LeftLine (now (file .entry)) (now (key .entry)) (take symbols (now (arities .entry))) (c .at) r ⌝ }
 {
     let it = c.term_line(file, key, symbols + 3);
     let answer = it.answer;
@@ -203,7 +198,7 @@ pub fn right_line(
 ) -> Side
     requires { ⌜ symbols ≤ 64 ⌝ }
     requires { ⌜ symbols ≤ length (now arities) ⌝ }
-    ensures { λ r. ⌜ ((l : Term ℕ) → variables l ≡ countFrom 0 v → saidSide (now (file .entry)) (take symbols (now (arities .entry))) r ≡ keyed (now (key .entry)) (rightSide (take symbols (now (arities .entry))) l) (drop (c .at) (now (file .entry)))) × WholeSide (now (file .entry)) (take symbols (now (arities .entry))) r ⌝ }
+    ensures { λ r. ⌜ RightLine (now (file .entry)) (now (key .entry)) (take symbols (now (arities .entry))) (c .at) v r ⌝ }
 {
     let it = c.term_line(file, key, symbols + 3);
     let answer = it.answer;

@@ -6,10 +6,10 @@ use lib.Dec.{ltb}
 use lib.ListN.{getD, take, drop}
 use Rattle.theory.specs.Lists.{countFrom}
 use Rattle.theory.specs.Term.{Term, var}
-use Rattle.theory.specs.Preorder.{Token, function, argument}
+use Rattle.theory.specs.Preorder.{Token, symbol, variable}
 use Rattle.theory.specs.Rewriting.{Rule}
 use Rattle.theory.specs.Automaton.{Automaton, Transition, _of_gives_}
-use Rattle.paper.specs.Judged.{Judged, fault, says}
+use Rattle.paper.specs.Checked.{Checked, fault, says}
 use Rattle.paper.specs.Sides.{termOf}
 use Rattle.paper.specs.Certificate.{Certificate}
 use Rattle.sets.specs.Sets.{mem}
@@ -37,15 +37,15 @@ automatonOf arities t = record { states = t .states; transitions = movesOf ariti
 
 -- The token of a byte.
 unfoldable pub tokenOf : ℕ → Token
-tokenOf b = cond (ltb b 64) (function b) (argument (b - 64))
+tokenOf b = cond (ltb b 64) (symbol b) (variable (b - 64))
 
 -- The term that was said; where none was, any term.
-unfoldable pub spoken : Judged (Term ℕ) → Term ℕ
+unfoldable pub spoken : Checked (Term ℕ) → Term ℕ
 spoken (says t) = t
 spoken (fault n) = var 0
 
 -- The n tokens from the byte `at` on, read as a term.
-unfoldable pub sideAt : (arities tokens : List ℕ) → (at n : ℕ) → Judged (Term ℕ)
+unfoldable pub sideAt : (arities tokens : List ℕ) → (at n : ℕ) → Checked (Term ℕ)
 sideAt arities tokens at n = termOf arities (map tokenOf (take n (drop at tokens)))
 
 -- Rule i.

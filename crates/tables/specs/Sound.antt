@@ -4,9 +4,9 @@ use mathlib.Core.List.{List}
 use Prim.Native.Nat.{ℕ, _+_, _*_, _≤_, _<_}
 use lib.ListN.{length, getD}
 use Rattle.theory.specs.Rewriting.{variableCount}
-use Rattle.theory.specs.Merging.{classes}
+use Rattle.theory.specs.Automaton.{classes}
 use Rattle.paper.specs.Limits.{mostSymbols}
-use Rattle.paper.specs.Judged.{says}
+use Rattle.paper.specs.Checked.{says}
 use Rattle.paper.specs.WellFormed.{WellFormed}
 use Rattle.tables.specs.Held.{held, sideAt, ruleAt, aritiesOf, mergeOf}
 use Rattle.tables.specs.declared.Rules.{Rules}

@@ -2,7 +2,7 @@
 use mathlib.Core.List.{List, List·Memᴰ}
 use Prim.Native.Nat.{ℕ}
 use Rattle.theory.specs.Term.{Term, Terms}
-use Rattle.theory.specs.Automaton.{Automaton, Transition, Gives, GivesAll, variable, symbol, nothing, _next_}
+use Rattle.theory.specs.Automaton.{Automaton, Transition, Gives, GivesAll, assigned, applied, nothing, _next_}
 use Rattle.theory.specs.Critical.{Share}
 
 -- Every transition of the first is one of the second.
@@ -12,8 +12,8 @@ Contained A B = (tr : Transition) → List·Memᴰ tr (A .transitions) → List�
 module _ {X : Type 0} {A B : Automaton} {σ : X → ℕ} (more : Contained A B) where
   mutual
     pub gives-more : {t : Term X} {q : ℕ} → Gives A σ t q → Gives B σ t q
-    gives-more (variable e) = variable e
-    gives-more (symbol m ds) = symbol (more _ m) (gives-more-all ds)
+    gives-more (assigned e) = assigned e
+    gives-more (applied m ds) = applied (more _ m) (gives-more-all ds)
 
     gives-more-all : {ts : Terms X} {qs : List ℕ} → GivesAll A σ ts qs → GivesAll B σ ts qs
     gives-more-all nothing = nothing

@@ -1,11 +1,15 @@
 pub mod Bools
+pub mod Nth
 pub mod Count
+pub mod Rewriting
 pub mod Grow
 pub mod Merged
+pub mod Ranked
 pub mod Factor
 pub mod Safety
 pub mod Tests
 pub mod Value
+pub mod Unsafe
 pub mod Sum
 pub mod Fixpoint
 pub mod Joined

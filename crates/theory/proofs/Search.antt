@@ -7,8 +7,8 @@ use native.Mathlib.Omega.{arith}
 use lib.ListN.{length}
 use Rattle.theory.specs.Lists.{countFrom}
 use Rattle.theory.specs.Term.{Term, var, node}
-use Rattle.theory.specs.Automaton.{Automaton, InRange, Gives, symbol}
-use Rattle.theory.specs.Search.{spread, substitutions}
+use Rattle.theory.specs.Automaton.{Automaton, InRange, Gives, applied}
+use Rattle.theory.specs.Value.{spread, substitutions}
 use Rattle.theory.proofs.Count.{mem-order, order-mem}
 
 spread-sound : {σ : List ℕ} (cs : List ℕ) (ls : List (List ℕ)) → List·Memᴰ σ (spread cs ls) → (c : ℕ) × (l : List ℕ) × List·Memᴰ c cs × List·Memᴰ l ls × (c ∷ l ≡ σ)
@@ -47,4 +47,4 @@ substitutions-complete k (c ∷ σ) b = spread-complete (substitutions k (length
 -- A term that is no bare variable evaluates to states in range only.
 pub left-below : {M : Automaton} → InRange M → (t : Term ℕ) {σ : ℕ → ℕ} {q : ℕ} → ((x : ℕ) → t ≡ var x → ⊥) → Gives M σ t q → q < M .states
 left-below range (var x) bare d = absurd (bare x refl)
-left-below range (node f ts) bare (symbol m ds) = range .targets _ m
+left-below range (node f ts) bare (applied m ds) = range .targets _ m

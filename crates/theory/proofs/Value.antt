@@ -1,21 +1,21 @@
 -- The test `value` is exact: it passes for the states that the term evaluates to, and for no others.
-use mathlib.Core.Path.{_≡_, refl}
+use mathlib.Core.Path.{_≡_, refl, sym, _∙_}
 use mathlib.Core.Logic.{_↔_}
-use mathlib.Core.Bool.{true, and-eq-true-iff, false≢true}
+use mathlib.Core.Bool.{Bool, true, false, and-eq-true-iff, false≢true, true≢false}
 use mathlib.Core.List.{List, [], _∷_}
 use Prim.Native.Nat.{ℕ}
 use Rattle.theory.specs.Term.{Term, Terms, var, node, none, _then_}
-use Rattle.theory.specs.Automaton.{Automaton, Gives, GivesAll, variable, symbol, nothing, _next_}
+use Rattle.theory.specs.Automaton.{Automaton, Gives, GivesAll, assigned, applied, nothing, _next_}
 use Rattle.theory.specs.Value.{value, values}
-use Rattle.theory.proofs.Tests.{equal-iff, match-iff, retarget, some-sound, some-complete}
+use Rattle.theory.proofs.Tests.{equal-iff, match-iff, retarget, any-sound, any-complete}
 
 module _ {X : Type 0} (A : Automaton) (σ : X → ℕ) where
   mutual
     unfolding value
 
     complete : {t : Term X} {q : ℕ} → Gives A σ t q → value A σ t q ≡ true
-    complete (variable e) = equal-iff _ _ .1 e
-    complete (symbol {f = f} {q = q} m ds) = some-complete _ m (match-iff f f q q _ .1 (refl, refl, completeAll ds))
+    complete (assigned e) = equal-iff _ _ .1 e
+    complete (applied {f = f} {q = q} m ds) = any-complete _ m (match-iff f f q q _ .1 (refl, refl, completeAll ds))
 
     completeAll : {ts : Terms X} {qs : List ℕ} → GivesAll A σ ts qs → values A σ ts qs ≡ true
     completeAll nothing = refl
@@ -25,11 +25,11 @@ module _ {X : Type 0} (A : Automaton) (σ : X → ℕ) where
     unfolding value
 
     sound : (t : Term X) {q : ℕ} → value A σ t q ≡ true → Gives A σ t q
-    sound (var x) {q} e = variable (equal-iff (σ x) q .0 e)
+    sound (var x) {q} e = assigned (equal-iff (σ x) q .0 e)
     sound (node f ts) {q} e =
-        let (tr, m, i) = some-sound (A .transitions) e in
+        let (tr, m, i) = any-sound (A .transitions) e in
         let (g, p, h) = match-iff (tr .symbol) f (tr .target) q (values A σ ts (tr .arguments)) .0 i in
-        symbol (retarget g p m) (soundAll ts (tr .arguments) h)
+        applied (retarget g p m) (soundAll ts (tr .arguments) h)
 
     soundAll : (ts : Terms X) (qs : List ℕ) → values A σ ts qs ≡ true → GivesAll A σ ts qs
     soundAll none [] e = nothing
@@ -40,3 +40,11 @@ module _ {X : Type 0} (A : Automaton) (σ : X → ℕ) where
   -- The test passes exactly for the states that the term evaluates to.
   pub value-exact : (t : Term X) (q : ℕ) → (value A σ t q ≡ true) ↔ Gives A σ t q
   value-exact t q = (sound t, complete)
+
+  -- Whether the term evaluates to the state is decided.
+  pub gives-decided : (t : Term X) (q : ℕ) → Dec (Gives A σ t q)
+  gives-decided t q = go (value A σ t q) refl
+    where
+      go : (b : Bool) → value A σ t q ≡ b → Dec (Gives A σ t q)
+      go true e = yes (sound t e)
+      go false e = no (λ d. true≢false (sym (complete d) ∙ e))

@@ -1,12 +1,8 @@
 pub mod Lists
 pub mod Term
-pub mod Rewriting
 pub mod Automaton
-pub mod Safe
-pub mod Merging
+pub mod Rewriting
 pub mod Critical
-pub mod Value
-pub mod Fixpoint
-pub mod Sharing
-pub mod Search
 pub mod Preorder
+pub mod Value
+pub mod Sharing

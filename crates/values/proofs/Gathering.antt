@@ -10,7 +10,7 @@ use lib.Bits.{bitAnd, bitOr}
 use lib.Dec.{eqb}
 use lib.ListN.{length, getD, set, take}
 use borrow.Author.Tests.{eq-eqb, ne-eqb}
-use Rattle.theory.specs.Lists.{countFrom, some}
+use Rattle.theory.specs.Lists.{countFrom, any}
 use Rattle.sets.specs.Sets.{Set, mem}
 use Rattle.sets.proofs.Laws.{mem-and}
 use Rattle.woven.specs.Woven.{part, moveOf, wovenMoves, Indexed}
@@ -20,13 +20,13 @@ use Rattle.values.specs.Lanes.{lane, Blank}
 use Rattle.values.proofs.Matrix.{blank-lane, held, held-put, held-more}
 
 -- One number more.
-some-last : {Y : Type 0} (g : ℕ → Y) (test : Y → Bool) (a n : ℕ) → some (map g (countFrom a (suc n))) test ≡ (some (map g (countFrom a n)) test || test (g (a + n)))
-unfolding some countFrom
+some-last : {Y : Type 0} (g : ℕ → Y) (test : Y → Bool) (a n : ℕ) → any (map g (countFrom a (suc n))) test ≡ (any (map g (countFrom a n)) test || test (g (a + n)))
+unfolding any countFrom
 some-last g test a zero = or-false (test (g a)) ∙ ap (λ k. test (g k)) (sym (add-zero a))
 some-last g test a (suc n) =
     ap (λ b. test (g a) || b) (some-last g test (suc a) n)
-    ∙ sym (or-assoc (test (g a)) (some (map g (countFrom (suc a) n)) test) (test (g (suc a + n))))
-    ∙ ap (λ k. some (map g (countFrom a (suc n))) test || test (g k)) (omega arith)
+    ∙ sym (or-assoc (test (g a)) (any (map g (countFrom (suc a) n)) test) (test (g (suc a + n))))
+    ∙ ap (λ k. any (map g (countFrom a (suc n))) test || test (g k)) (omega arith)
 
 module _ (arities words : List ℕ) (f : ℕ) (ss : List Set) where
   -- What the first i words give.
@@ -35,7 +35,7 @@ module _ (arities words : List ℕ) (f : ℕ) (ss : List Set) where
 
   one-word : (i q : ℕ) → upTo (i + 1) q ≡ (upTo i q || fires f ss q (moveOf arities (getD words i 0)))
   unfolding gathered wovenMoves
-  one-word i q = ap (λ n. some (map (λ i. moveOf arities (getD words i 0)) (countFrom 0 n)) (fires f ss q)) (add-one i) ∙ some-last (λ i. moveOf arities (getD words i 0)) (fires f ss q) 0 i ∙ ap (λ k. upTo i q || fires f ss q (moveOf arities (getD words k 0))) (zero-add i)
+  one-word i q = ap (λ n. any (map (λ i. moveOf arities (getD words i 0)) (countFrom 0 n)) (fires f ss q)) (add-one i) ∙ some-last (λ i. moveOf arities (getD words i 0)) (fires f ss q) 0 i ∙ ap (λ k. upTo i q || fires f ss q (moveOf arities (getD words k 0))) (zero-add i)
 
   -- A word of another symbol gives nothing.
   other-word : (i : ℕ) → (part (getD words i 0) 4 ≡ f → ⊥) → upTo (i + 1) ≡ upTo i
@@ -56,7 +56,7 @@ module _ (arities words : List ℕ) (f : ℕ) (ss : List Set) where
   module _ (heads : List ℕ) (d : Indexed words heads) (hf : f < 64) where
     -- Before the first word of f nothing is given.
     pub gather-start : (m : List ℕ) → Blank m → (j : ℕ) → lane j m ≡ upTo (getD heads f 0)
-    unfolding gathered wovenMoves some countFrom
+    unfolding gathered wovenMoves any countFrom
     gather-start m z j = fun-ext (blank-lane m z j) ∙ sym (skipped 0 (getD heads f 0) (omega arith) (λ r lo hi. none-before words heads d f hf r hi))
 
     -- After its last word nothing more is given.

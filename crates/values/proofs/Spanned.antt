@@ -4,11 +4,11 @@ use mathlib.Core.Bool.{true, _&&_, and-eq-true-iff}
 use mathlib.Core.List.{List, [], _∷_}
 use Prim.Native.Nat.{ℕ}
 use lib.Dec.{eqb}
-use Rattle.theory.specs.Lists.{some}
+use Rattle.theory.specs.Lists.{any}
 use Rattle.theory.specs.Term.{Term, Terms, var, node, none, _then_}
-use Rattle.theory.specs.Automaton.{Automaton, Gives, GivesAll, variable, symbol, nothing, _next_}
+use Rattle.theory.specs.Automaton.{Automaton, Gives, GivesAll, assigned, applied, nothing, _next_}
 use Rattle.theory.specs.Value.{value, values}
-use Rattle.theory.proofs.Tests.{match-iff, some-complete}
+use Rattle.theory.proofs.Tests.{match-iff, any-complete}
 use Rattle.sets.specs.Sets.{Set, none as empty, plus}
 use Rattle.values.specs.Sets.{drawn, fires, gathered, spanned, spannedAll}
 
@@ -20,7 +20,7 @@ module _ (A : Automaton) (σ : ℕ → ℕ) (ρ : ℕ → Set) where
       -- Where each variable has the set of its one class, that is the term's value.
       pub spanned-exact : (t : Term ℕ) → spanned (A .transitions) ρ t ≡ value A σ t
       spanned-exact (var x) = single x
-      spanned-exact (node f ts) = fun-ext (λ q. ap (some (A .transitions)) (fun-ext (λ tr. ap (λ b. eqb (tr .symbol) f && eqb (tr .target) q && b) (drawn-exact ts (tr .arguments)))))
+      spanned-exact (node f ts) = fun-ext (λ q. ap (any (A .transitions)) (fun-ext (λ tr. ap (λ b. eqb (tr .symbol) f && eqb (tr .target) q && b) (drawn-exact ts (tr .arguments)))))
 
       drawn-exact : (ts : Terms ℕ) (qs : List ℕ) → drawn (spannedAll (A .transitions) ρ ts) qs ≡ values A σ ts qs
       drawn-exact none [] = refl
@@ -34,8 +34,8 @@ module _ (A : Automaton) (σ : ℕ → ℕ) (ρ : ℕ → Set) where
       unfolding spanned gathered fires drawn
 
       pub spanned-more : {t : Term ℕ} {q : ℕ} → Gives A σ t q → spanned (A .transitions) ρ t q ≡ true
-      spanned-more (variable {x = x} e) = rw e at (allowed x)
-      spanned-more (symbol {f = f} {q = q} m ds) = some-complete _ m (match-iff f f q q _ .1 (refl, refl, drawn-more ds))
+      spanned-more (assigned {x = x} e) = rw e at (allowed x)
+      spanned-more (applied {f = f} {q = q} m ds) = any-complete _ m (match-iff f f q q _ .1 (refl, refl, drawn-more ds))
 
       drawn-more : {ts : Terms ℕ} {qs : List ℕ} → GivesAll A σ ts qs → drawn (spannedAll (A .transitions) ρ ts) qs ≡ true
       drawn-more nothing = refl

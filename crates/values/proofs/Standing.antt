@@ -9,7 +9,7 @@ use lib.ListN.{length, getD, drop, length-append, length-map, length-drop}
 use lib.Seq.{drop-cons}
 use borrow.Author.Tests.{lt-ltb, le-ltb}
 use Rattle.theory.specs.Term.{Term, Terms, var, node, none, _then_}
-use Rattle.theory.specs.Preorder.{Token, function, argument, preorder, preorderAll, Ranked, RankedRow, variable, symbol, nothing, another}
+use Rattle.theory.specs.Preorder.{Token, symbol, variable, preorder, preorderAll, Ranked, RankedRow, ranked-variable, ranked-symbol, no-more, one-more}
 use Rattle.theory.specs.Automaton.{Transition}
 use Rattle.sets.specs.Sets.{Set}
 use Rattle.tables.specs.Held.{tokenOf}
@@ -41,11 +41,11 @@ module _ (arities tokens : List ℕ) where
 
   -- A variable.
   module _ (at : ℕ) (h : at < length tokens) (hv : 64 ≤ getD tokens at 0) where
-    is-argument : tokenOf (getD tokens at 0) ≡ argument (getD tokens at 0 - 64)
+    is-argument : tokenOf (getD tokens at 0) ≡ variable (getD tokens at 0 - 64)
     unfolding tokenOf
-    is-argument = ap (λ b. cond b (function (getD tokens at 0)) (argument (getD tokens at 0 - 64))) (le-ltb (getD tokens at 0) 64 hv)
+    is-argument = ap (λ b. cond b (symbol (getD tokens at 0)) (variable (getD tokens at 0 - 64))) (le-ltb (getD tokens at 0) 64 hv)
 
-    taken-variable : (t : Term ℕ) (rest : List Token) → argument (getD tokens at 0 - 64) ∷ from (at + 1) ≡ preorder t ++ rest → (t ≡ var (getD tokens at 0 - 64)) × (from (at + 1) ≡ rest)
+    taken-variable : (t : Term ℕ) (rest : List Token) → variable (getD tokens at 0 - 64) ∷ from (at + 1) ≡ preorder t ++ rest → (t ≡ var (getD tokens at 0 - 64)) × (from (at + 1) ≡ rest)
     unfolding preorder
     taken-variable (var x) rest e = (let same : x ≡ getD tokens at 0 - 64 = cc in ap var same, cc)
     taken-variable (node f ts) rest e = let z : _≡_ {A = ℕ} 0 1 = cc in absurd (omega arith)
@@ -69,14 +69,14 @@ module _ (arities tokens : List ℕ) where
     pub spells : SpellsRow arities tokens (at + 1) (getD arities f 0) row rest
 
   module _ (at : ℕ) (h : at < length tokens) (hs : getD tokens at 0 < 64) where
-    is-function : tokenOf (getD tokens at 0) ≡ function (getD tokens at 0)
+    is-function : tokenOf (getD tokens at 0) ≡ symbol (getD tokens at 0)
     unfolding tokenOf
-    is-function = ap (λ b. cond b (function (getD tokens at 0)) (argument (getD tokens at 0 - 64))) (lt-ltb (getD tokens at 0) 64 hs)
+    is-function = ap (λ b. cond b (symbol (getD tokens at 0)) (variable (getD tokens at 0 - 64))) (lt-ltb (getD tokens at 0) 64 hs)
 
-    taken-symbol : {t : Term ℕ} (rest : List Token) → Ranked arities t → function (getD tokens at 0) ∷ from (at + 1) ≡ preorder t ++ rest → Node at (getD tokens at 0) t rest
+    taken-symbol : {t : Term ℕ} (rest : List Token) → Ranked arities t → symbol (getD tokens at 0) ∷ from (at + 1) ≡ preorder t ++ rest → Node at (getD tokens at 0) t rest
     unfolding preorder
-    taken-symbol rest variable e = let z : _≡_ {A = ℕ} 0 1 = cc in absurd (omega arith)
-    taken-symbol rest (symbol {f = f} {ts = ts} r) e =
+    taken-symbol rest ranked-variable e = let z : _≡_ {A = ℕ} 0 1 = cc in absurd (omega arith)
+    taken-symbol rest (ranked-symbol {f = f} {ts = ts} r) e =
         let same : f ≡ getD tokens at 0 = cc in
         let after : from (at + 1) ≡ preorderAll ts ++ rest = cc in
         record { row = ts; same = ap (λ g. node g ts) same; spells = record { ranked = rw same at r; reads = after } }
@@ -86,8 +86,8 @@ module _ (arities tokens : List ℕ) where
 
   -- A row without terms, and the first term of a row.
   pub no-terms : {ts : Terms ℕ} {n : ℕ} → RankedRow arities ts n → n ≡ 0 → ts ≡ none
-  no-terms (nothing e) h = refl
-  no-terms (another r rs e) h = absurd (omega arith)
+  no-terms (no-more e) h = refl
+  no-terms (one-more r rs e) h = absurd (omega arith)
 
   pub record First (at n : ℕ) (ts : Terms ℕ) (rest : List Token) : Type 0 where
     pub term : Term ℕ
@@ -98,8 +98,8 @@ module _ (arities tokens : List ℕ) where
 
   pub taken-first : (at n : ℕ) {ts : Terms ℕ} {m : ℕ} (rest : List Token) → RankedRow arities ts m → m ≡ suc n → from at ≡ preorderAll ts ++ rest → First at n ts rest
   unfolding preorder
-  taken-first at n rest (nothing e) h reads = absurd (omega arith)
-  taken-first at n rest (another {t = t} {ts = ts} {k = k} r rs e) h reads =
+  taken-first at n rest (no-more e) h reads = absurd (omega arith)
+  taken-first at n rest (one-more {t = t} {ts = ts} {k = k} r rs e) h reads =
       let same : k ≡ n = omega arith in
       record { term = t; others = ts; same = refl; spells = record { ranked = r; reads = reads ∙ append-assoc (preorder t) (preorderAll ts) rest }; ranked = rw same at rs }
 

@@ -3,7 +3,7 @@ use mathlib.Core.Bool.{Bool, true, false, _&&_}
 use mathlib.Core.List.{List, [], _∷_}
 use Prim.Native.Nat.{ℕ}
 use lib.Dec.{eqb}
-use Rattle.theory.specs.Lists.{some}
+use Rattle.theory.specs.Lists.{any}
 use Rattle.theory.specs.Term.{Term, Terms, var, node, none, _then_}
 use Rattle.theory.specs.Automaton.{Transition}
 use Rattle.sets.specs.Sets.{Set}
@@ -21,7 +21,7 @@ fires f ss q tr = eqb (tr .symbol) f && eqb (tr .target) q && drawn ss (tr .argu
 
 -- Every class that some transition of f gives for arguments drawn from the sets.
 unfoldable pub gathered : List Transition → ℕ → List Set → Set
-gathered Δ f ss q = some Δ (fires f ss q)
+gathered Δ f ss q = any Δ (fires f ss q)
 
 unfoldable mutual
   -- The classes that a term has where the variable x may have any class of the set ρ x.

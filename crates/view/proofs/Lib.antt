@@ -1,3 +1,4 @@
 pub mod PaperLines
 pub mod HeadingLaws
 pub mod Apart
+pub mod Fixed

@@ -7,10 +7,10 @@ use mathlib.Core.List.{List, _++_}
 use native.Mathlib.Omega.{arith}
 use lib.ListN.{length, drop, length-drop}
 use Rattle.paper.specs.Bytes.{bytes}
-use Rattle.paper.specs.Judged.{Judged}
-use Rattle.paper.specs.Lines.{judgedLine, takeLine, after, ended}
+use Rattle.paper.specs.Checked.{Checked}
+use Rattle.paper.specs.Lines.{checkedLine, takeLine, after, ended}
 use Rattle.paper.specs.Certificate.{row, Arities}
-use Rattle.paper.specs.Tables.{one, arityList}
+use Rattle.paper.specs.Tables.{singleNumber, arityList}
 use Rattle.fields.specs.Line.{kindAt}
 use Rattle.fields.specs.Said.{keyed, saidField, PlacedField, Listing}
 use Rattle.fields.specs.declared.cursor.Field.{Field}
@@ -25,18 +25,18 @@ pub left-none : (at : ℕ) (file : List ℕ) → length file ≤ at → 0 ≡ le
 left-none at file past = omega (arith, past, length-drop at file)
 
 -- paper's line is the line by its key's bytes
-judged-is : {X : Type 0} (key : String) (judge : List ℕ → Judged X) (bs : List ℕ) → judgedLine key judge bs ≡ keyed (bytes key ++ bytes "=") judge bs
-unfolding judgedLine takeLine keyed
+judged-is : {X : Type 0} (key : String) (judge : List ℕ → Checked X) (bs : List ℕ) → checkedLine key judge bs ≡ keyed (bytes key ++ bytes "=") judge bs
+unfolding checkedLine takeLine keyed
 judged-is key judge bs = bind-bind (after (bytes key ++ bytes "=") bs) ended _
 
 -- a line of one number, by its kind
-pub number-is : (file key bs : List ℕ) (kind k : ℕ) (f : Field) → kind ≡ k → key ≡ bytes (row (kindAt k) .key) ++ bytes "=" → (saidField file f ≡ keyed key (one (kindAt k)) bs) × PlacedField file f
-    → (saidField file f ≡ judgedLine (row (kindAt kind) .key) (one (kindAt kind)) bs) × PlacedField file f
+pub number-is : (file key bs : List ℕ) (kind k : ℕ) (f : Field) → kind ≡ k → key ≡ bytes (row (kindAt k) .key) ++ bytes "=" → (saidField file f ≡ keyed key (singleNumber (kindAt k)) bs) × PlacedField file f
+    → (saidField file f ≡ checkedLine (row (kindAt kind) .key) (singleNumber (kindAt kind)) bs) × PlacedField file f
 number-is file key bs kind k f same spelt (said, placed) =
-    (said ∙ ap (λ b. keyed b (one (kindAt k)) bs) spelt ∙ sym (judged-is (row (kindAt k) .key) (one (kindAt k)) bs) ∙ ap (λ n. judgedLine (row (kindAt n) .key) (one (kindAt n)) bs) (sym same), placed)
+    (said ∙ ap (λ b. keyed b (singleNumber (kindAt k)) bs) spelt ∙ sym (judged-is (row (kindAt k) .key) (singleNumber (kindAt k)) bs) ∙ ap (λ n. checkedLine (row (kindAt n) .key) (singleNumber (kindAt n)) bs) (sym same), placed)
 
 -- the line of arities
-pub arities-are : (file key bs : List ℕ) (it : Items) → key ≡ bytes (row Arities .key) ++ bytes "=" → Listing file 3 (keyed key arityList bs) it → Listing file 3 (judgedLine (row Arities .key) arityList bs) it
+pub arities-are : (file key bs : List ℕ) (it : Items) → key ≡ bytes (row Arities .key) ++ bytes "=" → Listing file 3 (keyed key arityList bs) it → Listing file 3 (checkedLine (row Arities .key) arityList bs) it
 arities-are file key bs it spelt l = record { said = l .said ∙ ap (λ b. keyed b arityList bs) spelt ∙ sym (judged-is (row Arities .key) arityList bs); whole = l .whole }
 
 -- the last of the lines of one number

@@ -5,7 +5,7 @@ use mathlib.Core.Path.{_≡_}
 use mathlib.Core.List.{List, []}
 use lib.ListN.{length, drop, take, getD}
 use Rattle.paper.specs.Certificate.{Budget, Arities}
-use Rattle.paper.specs.Tables.{one, arityList}
+use Rattle.paper.specs.Tables.{singleNumber, arityList}
 use Rattle.paper.specs.Format.{Reader, Reading, refused, gave, _>>=_, give, fixed}
 use Rattle.fields.specs.Padded.{padded}
 use Rattle.fields.specs.declared.cursor.Cursor.{Cursor}
@@ -26,7 +26,7 @@ pub record First : Type 0 where
 -- The first two of paper's lines.
 unfoldable pub firstLines : Reader First
 firstLines = do
-  budget ← fixed Budget one
+  budget ← fixed Budget singleNumber
   arities ← fixed Arities (λ kind. arityList)
   give (record { budget = budget; arities = arities })
 

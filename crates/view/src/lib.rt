@@ -5,8 +5,8 @@ ghost use mathlib.Core.Path.{_≡_};
 ghost use Prim.Native.Nat.{_<_};
 ghost use lib.ListN.{length, drop};
 ghost use Rattle.paper.specs.Certificate.{row, Arities};
-ghost use Rattle.paper.specs.Lines.{judgedLine};
-ghost use Rattle.paper.specs.Tables.{one, arityList};
+ghost use Rattle.paper.specs.Lines.{checkedLine};
+ghost use Rattle.paper.specs.Tables.{singleNumber, arityList};
 ghost use Rattle.fields.specs.Line.{kindAt};
 ghost use Rattle.fields.specs.Said.{saidField, PlacedField, Listing};
 ghost use Rattle.view.specs.Heading.{firstLines, nextIn, noHeading, headingOf, saidHeading, WholeHeading};
@@ -59,7 +59,7 @@ fn left_at(file: &[u8], at: usize) -> usize
 // The fixed line of this kind at a place, where its row has one number.
 fn number_at(file: &[u8], at: usize, kind: usize) -> Field
     requires { ⌜ (kind < 10) × (row (kindAt kind) .most ≡ 1) ⌝ }
-    ensures { λ f. ⌜ (saidField (now (file .entry)) f ≡ judgedLine (row (kindAt kind) .key) (one (kindAt kind)) (drop at (now (file .entry)))) × PlacedField (now (file .entry)) f ⌝ }
+    ensures { λ f. ⌜ (saidField (now (file .entry)) f ≡ checkedLine (row (kindAt kind) .key) (singleNumber (kindAt kind)) (drop at (now (file .entry)))) × PlacedField (now (file .entry)) f ⌝ }
 {
     let c = Cursor { at };
     if kind == BUDGET {
@@ -82,7 +82,7 @@ fn number_at(file: &[u8], at: usize, kind: usize) -> Field
 
 // The line `arities` at a place.
 fn arities_at(file: &[u8], at: usize) -> Items
-    ensures { λ it. ⌜ Listing (now (file .entry)) 3 (judgedLine (row Arities .key) arityList (drop at (now (file .entry)))) it ⌝ }
+    ensures { λ it. ⌜ Listing (now (file .entry)) 3 (checkedLine (row Arities .key) arityList (drop at (now (file .entry)))) it ⌝ }
 {
     Cursor { at }.arities_line(file, b"arities=")
 }
@@ -164,14 +164,14 @@ pub fn left<'a>(v: View<'a>) -> usize
 // The next line, which is the fixed line of this kind: one number.
 pub fn number_line<'a>(v: View<'a>, kind: usize) -> Field
     requires { ⌜ (kind < 10) × (row (kindAt kind) .most ≡ 1) ⌝ }
-    ensures { λ f. ⌜ (saidField (now (v .entry .file)) f ≡ judgedLine (row (kindAt kind) .key) (one (kindAt kind)) (drop (v .entry .at) (now (v .entry .file)))) × PlacedField (now (v .entry .file)) f ⌝ }
+    ensures { λ f. ⌜ (saidField (now (v .entry .file)) f ≡ checkedLine (row (kindAt kind) .key) (singleNumber (kindAt kind)) (drop (v .entry .at) (now (v .entry .file)))) × PlacedField (now (v .entry .file)) f ⌝ }
 {
     number_at(v.file, v.at, kind)
 }
 
 // The next line, which is `arities`.
 pub fn arities_line<'a>(v: View<'a>) -> Items
-    ensures { λ it. ⌜ Listing (now (v .entry .file)) 3 (judgedLine (row Arities .key) arityList (drop (v .entry .at) (now (v .entry .file)))) it ⌝ }
+    ensures { λ it. ⌜ Listing (now (v .entry .file)) 3 (checkedLine (row Arities .key) arityList (drop (v .entry .at) (now (v .entry .file)))) it ⌝ }
 {
     arities_at(v.file, v.at)
 }

@@ -7,12 +7,12 @@ use Prim.Native.Nat.{ℕ, zero, suc}
 use Rattle.theory.specs.Term.{Term}
 use Rattle.theory.specs.Rewriting.{Rule}
 use Rattle.theory.specs.Automaton.{Automaton}
-use Rattle.theory.specs.Value.{value}
+use Rattle.theory.specs.Value.{value, isCritical}
 use Rattle.theory.specs.Critical.{entry}
-use Rattle.theory.specs.Search.{critical as isCritical}
 use Rattle.theory.proofs.Grow.{Contained, gives-more}
 use Rattle.theory.proofs.Value.{value-exact}
-use Rattle.paper.specs.Verdict.{critical, Case, smallest, criticalClass, examine}
+use Rattle.paper.specs.Meaning.{critical}
+use Rattle.paper.specs.Computed.{Case, smallest, criticalClass, examine}
 
 same-test : (a b : Bool) → (a ≡ true → b ≡ true) → (b ≡ true → a ≡ true) → a ≡ b
 same-test true true h g = refl

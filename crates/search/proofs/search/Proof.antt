@@ -3,20 +3,21 @@ mod Invariants
 mod Asked
 use mathlib.Core.Path.{refl, sym, ap, _∙_, subst}
 use mathlib.Core.Logic.{⊎-elim}
-use mathlib.Core.List.{[], _∷_}
+use mathlib.Core.List.{List, [], _∷_}
 use Prim.Native.Nat.{ℕ, _+_, _*_, _^_, _<_}
 use lib.ListN.{getD, take}
 use borrow.Author.Count.{below-more, below-none}
-use Rattle.paper.specs.Verdict.{critical, accepted, stopped}
-use Rattle.paper.specs.Meaning.{total}
-use Rattle.verdicts.specs.Said.{said}
-use Rattle.lanes.specs.Prefixes.{choices, chosen}
+use Rattle.paper.specs.Meaning.{critical, accepted, stopped, total}
+use Rattle.verdicts.specs.declared.CriticalPair.{CriticalPair}
+use Rattle.verdicts.specs.Said.{classesOf, said}
+use Rattle.lanes.specs.Prefixes.{choices, chosen, pairOf}
 use Rattle.lanes.specs.Automaton.{automatonOf}
 use Rattle.lanes.proofs.Numbers.{choices-low}
+use Rattle.lanes.proofs.Shown.{pair-classes}
 use Rattle.search.proofs.Order.{ruleIn}
 use Rattle.search.proofs.Walk.{Clear, level-rule, level-start, level-run, level-next, level-end, judged}
 use Rattle.search.proofs.Steps.{M, R, rule-count, rule-variables, rule-spelled}
-use Rattle.search.proofs.Turns.{all-examined, lane-next, lane-stop, lane-found, block-run, block-clear, block-stop, dead-clear, dead-stop, rule-end}
+use Rattle.search.proofs.Turns.{all-examined, lane-bit, lane-next, lane-stop, lane-found, block-run, block-clear, block-stop, dead-clear, dead-stop, rule-end}
 use borrow.Author.Needs.{needs}
 use native.Mathlib.Omega.{arith}
 use Rattle.search.proofs.search.Statement.{statement}
@@ -219,7 +220,7 @@ returns-2 c =
     judged (M (take (a .symbols) (a .arities .now)) (a .words .now) (a .heads .now) (a .t5) (a .k)) (R (take (a .symbols) (a .arities .now)) (a .words .now) (a .heads .now) (a .t5) (a .k)) (start .pre .in-range) (start .pre .shaped) (a .budget) (stopped (a .budget)) (lane-stop (take (a .symbols) (a .arities .now)) (a .words .now) (a .heads .now) (a .t5) (a .k) (start .pre) (a .budget) _ rule _ (getD (a .t5 .variables) rule 0) _ _ _ _ _ _ (ln .inv .0) x0 x1 x2 _ _ _ (ln .j) (ln .examined) (ln .inv .1) (c .before .lanes-test .taken) (c .if5 .taken))
 
 returns-3 : At tie.Need-returns-3
-unfolding automatonOf said
+unfolding automatonOf said pairOf
 returns-3 c =
     let start = c .before .before .before .before .before .before .before .before .before .before .before .before .before .before .before .before .before .before .before .before .before .before .before .before .before .before .before .before .before .before .before .before .before .before .before .before .before .before .before .before .before .before .before .before .before .before .before in
     let a = start .args in
@@ -228,10 +229,11 @@ returns-3 c =
     let x1 = c .before .before .before .before .before .before .before .before .before .before .before .before .before .before .before .before .before .before .before .before .before .before .before .before .second .x1 in
     let x2 = c .before .before .before .before .before .before .before .before .before .before .before .before .before .before .before .before .before .third .x2 in
     let ln = c .before .before .before .before .before .before .before .before .before .lanes in
-    let p = c .pair .ensures in
     let q = c .before .before .before .before .before .before .classes .q in
     let j = ln .j in
-    (λ i. critical (p .0 i) (p .1 i) (p .2 i) (ln .examined + 1))
+    let bit = lane-bit (take (a .symbols) (a .arities .now)) (a .words .now) (a .heads .now) (a .t5) (a .k) (start .pre) (a .budget) _ rule _ (getD (a .t5 .variables) rule 0) _ _ _ _ _ _ (ln .inv .0) x0 x1 x2 _ _ _ (ln .j) (ln .examined) (ln .inv .1) (c .before .before .before .before .before .before .before .before .lanes-test .taken) in
+    ap (λ (p : CriticalPair). critical (p .rule) (classesOf p) (p .class) (ln .examined + 1)) (c .pair .ensures)
+    ∙ ap (λ (xs : List ℕ). critical rule xs q (ln .examined + 1)) (pair-classes rule x0 x1 x2 j q (ln .inv .1 .low0) (ln .inv .1 .low1) (ln .inv .1 .low2) bit (getD (a .t5 .variables) rule 0))
     ∙ judged (M (take (a .symbols) (a .arities .now)) (a .words .now) (a .heads .now) (a .t5) (a .k)) (R (take (a .symbols) (a .arities .now)) (a .words .now) (a .heads .now) (a .t5) (a .k)) (start .pre .in-range) (start .pre .shaped) (a .budget) (critical rule (chosen (getD (a .t5 .variables) rule 0) x0 x1 x2 j) q (ln .examined + 1)) (lane-found (take (a .symbols) (a .arities .now)) (a .words .now) (a .heads .now) (a .t5) (a .k) (start .pre) (a .budget) _ rule _ (getD (a .t5 .variables) rule 0) _ _ _ _ _ _ (ln .inv .0) x0 x1 x2 _ _ _ (ln .j) (ln .examined) (ln .inv .1) (c .before .before .before .before .before .before .before .before .lanes-test .taken) (c .before .before .before .before .before .before .before .if5 .left) q (sym (c .before .before .critical .ensures) ∙ c .before .if6 .taken) (c .before .before .before .before .before .before .classes .inv .1))
 
 returns-4 : At tie.Need-returns-4

@@ -4,8 +4,7 @@ use mathlib.Core.Path.{sym, ap, _∙_}
 use mathlib.Core.Bool.{_||_}
 use lib.Dec.{leb}
 use borrow.Author.Tests.{eq-eqb, ne-eqb}
-use Rattle.sharing.specs.Share.{joins, rel}
-use Rattle.sharing.specs.Share.{arg}
+use Rattle.sharing.specs.Share.{joins, rel, arg}
 use Rattle.theory.proofs.Bools.{and-on, and-off}
 use Prim.Native.Nat.{ℕ}
 use borrow.Author.Needs.{needs}

@@ -3,7 +3,7 @@ use Rattle.sides.specs.Tokens.{openTerms}
 use Rattle.sides.proofs.PassLaws.{one-more, one-short, one-end, one-start}
 use Prim.Native.Nat.{_≤_, _+_}
 use lib.ListN.{drop, take}
-use Rattle.paper.specs.Judged.{says}
+use Rattle.paper.specs.Checked.{says}
 use borrow.Author.Needs.{needs}
 use native.Mathlib.Omega.{arith}
 use Rattle.sides.proofs.is_one_term.Statement.{statement}

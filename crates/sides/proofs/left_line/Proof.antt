@@ -1,7 +1,7 @@
 use denote.Ref.{now}
 use mathlib.Core.Path.{refl, sym, _∙_}
 use lib.Seq.{length-take-le}
-use Rattle.sides.proofs.SidesTold.{token-line, left-refused, left-eight, left-bare, left-broken, left-good, left-counted, none-counted, none-whole, side-whole}
+use Rattle.sides.proofs.SidesTold.{token-line, left-refused, left-eight, left-bare, left-broken, whole-left, no-left}
 use native.Mathlib.Omega.{arith}
 use borrow.Author.Needs.{needs}
 use Rattle.sides.proofs.left_line.Statement.{statement}
@@ -29,7 +29,8 @@ returns : tie.Need-returns
 returns c =
     let m = c .before .before .before .before in
     let s = m .before .before .before in
-    (left-refused _ _ _ (s .args .symbols) _ (s .pre .1) (s .pre .0) _ _ _ _ (c .no-side .ensures) (c .before .list-refusal .ensures) (m .term-line .ensures) (c .before .before .enum-told .given .1), none-counted _ _ _ (c .no-side .ensures), none-whole _ _ _ _ (c .no-side .ensures))
+    no-left _ _ _ _ _ _ (c .no-side .ensures)
+    (left-refused _ _ _ (s .args .symbols) _ (s .pre .1) (s .pre .0) _ _ _ _ (c .no-side .ensures) (c .before .list-refusal .ensures) (m .term-line .ensures) (c .before .before .enum-told .given .1))
 
 is-one-term-requires : tie.Need-is-one-term-requires
 is-one-term-requires c κs =
@@ -52,7 +53,8 @@ returns-2 c =
     let m = a .before .before in
     let s = m .before .before .before in
     let t = token-line _ _ (now (s .args .arities)) _ _ (length-take-le (s .args .symbols) _ (s .pre .1)) (s .pre .0) _ _ _ _ (m .term-line .ensures) (a .answer .given .1) in
-    (left-bare _ _ _ (s .args .symbols) _ (s .pre .1) (s .pre .0) _ _ _ _ t (sym (o .is-one-term .ensures) ∙ c .before .before .if1 .taken) (c .no-side2 .ensures) (c .before .if2 .taken), none-counted _ _ _ (c .no-side2 .ensures), none-whole _ _ _ _ (c .no-side2 .ensures))
+    no-left _ _ _ _ _ _ (c .no-side2 .ensures)
+    (left-bare _ _ _ (s .args .symbols) _ (s .pre .1) (s .pre .0) _ _ _ _ t (sym (o .is-one-term .ensures) ∙ c .before .before .if1 .taken) (c .no-side2 .ensures) (c .before .if2 .taken))
 
 line-up-requires : tie.Need-line-up-requires
 line-up-requires c κs =
@@ -81,7 +83,8 @@ returns-3 c =
     let m = a .before .before in
     let s = m .before .before .before in
     let t = token-line _ _ (now (s .args .arities)) _ _ (length-take-le (s .args .symbols) _ (s .pre .1)) (s .pre .0) _ _ _ _ (m .term-line .ensures) (a .answer .given .1) in
-    (left-broken _ _ _ (s .args .symbols) _ (s .pre .1) (s .pre .0) _ _ _ _ t (sym (o .is-one-term .ensures) ∙ e .before .if1 .taken) (c .no-side3 .ensures) (e .if2 .left) (sym (u .line-up .ensures) ∙ c .before .enum-told2 .given .1), none-counted _ _ _ (c .no-side3 .ensures), none-whole _ _ _ _ (c .no-side3 .ensures))
+    no-left _ _ _ _ _ _ (c .no-side3 .ensures)
+    (left-broken _ _ _ (s .args .symbols) _ (s .pre .1) (s .pre .0) _ _ _ _ t (sym (o .is-one-term .ensures) ∙ e .before .if1 .taken) (c .no-side3 .ensures) (e .if2 .left) (sym (u .line-up .ensures) ∙ c .before .enum-told2 .given .1))
 
 returns-4 : tie.Need-returns-4
 returns-4 c =
@@ -94,7 +97,7 @@ returns-4 c =
     let t = token-line _ _ (now (s .args .arities)) _ _ (length-take-le (s .args .symbols) _ (s .pre .1)) (s .pre .0) _ _ _ _ (m .term-line .ensures) (a .answer .given .1) in
     let w = sym (u .line-up .ensures) ∙ c .before .o .given .1 in
     let q = sym (o .is-one-term .ensures) ∙ e .before .if1 .taken in
-    (left-good _ _ _ (s .args .symbols) _ (s .pre .1) (s .pre .0) _ _ _ _ t q _ refl (e .if2 .left) w, left-counted _ _ _ (s .args .symbols) _ (s .pre .1) (s .pre .0) _ _ _ _ t q _ refl w, side-whole _ _ _ (s .args .symbols) _ (s .pre .1) (s .pre .0) _ _ _ _ t q _ refl)
+    whole-left _ _ _ (s .args .symbols) _ (s .pre .1) (s .pre .0) _ _ _ _ t q _ refl (e .if2 .left) w
 
 no-side-requires-4 : tie.Need-no-side-requires-4
 no-side-requires-4 c κs = search needs
@@ -106,7 +109,8 @@ returns-5 c =
     let m = a .before .before in
     let s = m .before .before .before in
     let t = token-line _ _ (now (s .args .arities)) _ _ (length-take-le (s .args .symbols) _ (s .pre .1)) (s .pre .0) _ _ _ _ (m .term-line .ensures) (a .answer .given .1) in
-    (left-eight _ _ _ (s .args .symbols) _ (s .pre .1) (s .pre .0) _ _ _ _ t (c .no-side4 .ensures) (sym (o .is-one-term .ensures) ∙ c .before .if1 .left), none-counted _ _ _ (c .no-side4 .ensures), none-whole _ _ _ _ (c .no-side4 .ensures))
+    no-left _ _ _ _ _ _ (c .no-side4 .ensures)
+    (left-eight _ _ _ (s .args .symbols) _ (s .pre .1) (s .pre .0) _ _ _ _ t (c .no-side4 .ensures) (sym (o .is-one-term .ensures) ∙ c .before .if1 .left))
 
 pub left-line-spec : {M : Type 1} → statement M
 left-line-spec =

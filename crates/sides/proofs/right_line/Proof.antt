@@ -1,7 +1,7 @@
 use mathlib.Core.Path.{refl, sym, _∙_}
 use lib.Seq.{length-take-le}
 use denote.Ref.{now}
-use Rattle.sides.proofs.SidesTold.{token-line, right-refused, right-eight, right-strange, right-good, none-whole, side-whole}
+use Rattle.sides.proofs.SidesTold.{token-line, right-refused, right-eight, right-strange, whole-right, no-right}
 use native.Mathlib.Omega.{arith}
 use borrow.Author.Needs.{needs}
 use Rattle.sides.proofs.right_line.Statement.{statement}
@@ -29,7 +29,8 @@ returns : tie.Need-returns
 returns c =
     let m = c .before .before .before .before in
     let s = m .before .before .before in
-    (λ l k. right-refused _ _ _ (s .args .symbols) _ (s .pre .1) (s .pre .0) _ _ l _ _ (c .no-side .ensures) (c .before .list-refusal .ensures) (m .term-line .ensures) (c .before .before .enum-told .given .1), none-whole _ _ _ _ (c .no-side .ensures))
+    no-right _ _ _ _ _ _ (c .no-side .ensures) _
+    (λ l k. right-refused _ _ _ (s .args .symbols) _ (s .pre .1) (s .pre .0) _ _ l _ _ (c .no-side .ensures) (c .before .list-refusal .ensures) (m .term-line .ensures) (c .before .before .enum-told .given .1))
 
 is-one-term-requires : tie.Need-is-one-term-requires
 is-one-term-requires c κs =
@@ -56,7 +57,7 @@ returns-2 c =
     let m = a .before .before in
     let s = m .before .before .before in
     let t = token-line _ _ (now (s .args .arities)) _ _ (length-take-le (s .args .symbols) _ (s .pre .1)) (s .pre .0) _ _ _ _ (m .term-line .ensures) (a .answer .given .1) in
-    (λ l k. right-good _ _ _ (s .args .symbols) _ (s .pre .1) (s .pre .0) _ _ _ _ t (sym (o .is-one-term .ensures) ∙ e .before .if1 .taken) l _ k refl (sym (e .all-known .ensures) ∙ c .if2 .taken), side-whole _ _ _ (s .args .symbols) _ (s .pre .1) (s .pre .0) _ _ _ _ t (sym (o .is-one-term .ensures) ∙ e .before .if1 .taken) _ refl)
+    whole-right _ _ _ (s .args .symbols) _ (s .pre .1) (s .pre .0) _ _ _ _ t (sym (o .is-one-term .ensures) ∙ e .before .if1 .taken) _ refl (sym (e .all-known .ensures) ∙ c .if2 .taken)
 
 no-side-requires-2 : tie.Need-no-side-requires-2
 no-side-requires-2 c κs = search needs
@@ -69,7 +70,8 @@ returns-3 c =
     let m = a .before .before in
     let s = m .before .before .before in
     let t = token-line _ _ (now (s .args .arities)) _ _ (length-take-le (s .args .symbols) _ (s .pre .1)) (s .pre .0) _ _ _ _ (m .term-line .ensures) (a .answer .given .1) in
-    (λ l k. right-strange _ _ _ (s .args .symbols) _ (s .pre .1) (s .pre .0) _ _ _ _ t (sym (o .is-one-term .ensures) ∙ e .before .if1 .taken) l _ k (c .no-side2 .ensures) (sym (e .all-known .ensures) ∙ c .before .if2 .left), none-whole _ _ _ _ (c .no-side2 .ensures))
+    no-right _ _ _ _ _ _ (c .no-side2 .ensures) _
+    (λ l k. right-strange _ _ _ (s .args .symbols) _ (s .pre .1) (s .pre .0) _ _ _ _ t (sym (o .is-one-term .ensures) ∙ e .before .if1 .taken) l _ k (c .no-side2 .ensures) (sym (e .all-known .ensures) ∙ c .before .if2 .left))
 
 no-side-requires-3 : tie.Need-no-side-requires-3
 no-side-requires-3 c κs = search needs
@@ -81,7 +83,8 @@ returns-4 c =
     let m = a .before .before in
     let s = m .before .before .before in
     let t = token-line _ _ (now (s .args .arities)) _ _ (length-take-le (s .args .symbols) _ (s .pre .1)) (s .pre .0) _ _ _ _ (m .term-line .ensures) (a .answer .given .1) in
-    (λ l k. right-eight _ _ _ (s .args .symbols) _ (s .pre .1) (s .pre .0) _ _ _ _ t l (c .no-side3 .ensures) (sym (o .is-one-term .ensures) ∙ c .before .if1 .left), none-whole _ _ _ _ (c .no-side3 .ensures))
+    no-right _ _ _ _ _ _ (c .no-side3 .ensures) _
+    (λ l k. right-eight _ _ _ (s .args .symbols) _ (s .pre .1) (s .pre .0) _ _ _ _ t l (c .no-side3 .ensures) (sym (o .is-one-term .ensures) ∙ c .before .if1 .left))
 
 pub right-line-spec : {M : Type 1} → statement M
 right-line-spec =

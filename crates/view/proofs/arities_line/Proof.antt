@@ -37,7 +37,7 @@ use denote.Triple.Walked.{says, Stays, stay-none, walkOf, goes-none, Walks, ends
 use denote.Exit.{yes}
 use denote.Triple.Clauses.{ensured, lasts}
 use Rattle.paper.specs.Certificate.{row, Arities}
-use Rattle.paper.specs.Lines.{judgedLine}
+use Rattle.paper.specs.Lines.{checkedLine}
 use Rattle.paper.specs.Tables.{arityList}
 use Rattle.fields.specs.Said.{Listing}
 use Rattle.fields.specs.declared.lists.Items.{Items}
@@ -68,7 +68,7 @@ module _ {M : Type 1} (𝓤 : URA M) (H : Heap 𝓤) (A : Atoms 𝓤) (W : Given
   mach = T′.lowered d
 
   abbrev Found : Items → Type 0
-  Found = Listing (now (d .file)) 3 (judgedLine (row Arities .key) arityList (dropped (d .at) (now (d .file))))
+  Found = Listing (now (d .file)) 3 (checkedLine (row Arities .key) arityList (dropped (d .at) (now (d .file))))
 
   abbrev Post : Val → SProp 𝓤
   Post = walkOf 𝓤 H A arities-line.ended stayed (arities-line.clauses 𝓤 H A mem run) .post (((κ, tt), (q, tt), tt, (d, tt), (mach ∷ [], tt)), tt)

@@ -12,7 +12,7 @@ slice-aggregate-number-line c = search needs
 
 number-line-requires : tie.Need-number-line-requires
 unfolding row
-number-line-requires c κs = (omega arith, refl)
+number-line-requires c κs = omega arith
 
 returns : tie.Need-returns
 unfolding row bytes
@@ -23,7 +23,7 @@ slice-aggregate-number-line-2 c = search needs
 
 number-line-requires-2 : tie.Need-number-line-requires-2
 unfolding row
-number-line-requires-2 c κs = (omega arith, refl)
+number-line-requires-2 c κs = omega arith
 
 returns-2 : tie.Need-returns-2
 unfolding row bytes
@@ -34,7 +34,7 @@ slice-aggregate-number-line-3 c = search needs
 
 number-line-requires-3 : tie.Need-number-line-requires-3
 unfolding row
-number-line-requires-3 c κs = (omega arith, refl)
+number-line-requires-3 c κs = omega arith
 
 returns-3 : tie.Need-returns-3
 unfolding row bytes
@@ -45,7 +45,7 @@ slice-aggregate-number-line-4 c = search needs
 
 number-line-requires-4 : tie.Need-number-line-requires-4
 unfolding row
-number-line-requires-4 c κs = (omega arith, refl)
+number-line-requires-4 c κs = omega arith
 
 returns-4 : tie.Need-returns-4
 unfolding row bytes
@@ -56,7 +56,7 @@ slice-aggregate-number-line-5 c = search needs
 
 number-line-requires-5 : tie.Need-number-line-requires-5
 unfolding row
-number-line-requires-5 c κs = (omega arith, refl)
+number-line-requires-5 c κs = omega arith
 
 returns-5 : tie.Need-returns-5
 unfolding row bytes
@@ -67,7 +67,7 @@ slice-aggregate-number-line-6 c = search needs
 
 number-line-requires-6 : tie.Need-number-line-requires-6
 unfolding row
-number-line-requires-6 c κs = (omega arith, refl)
+number-line-requires-6 c κs = omega arith
 
 returns-6 : tie.Need-returns-6
 unfolding row bytes

@@ -39,8 +39,8 @@ use denote.Triple.Walked.{says, needs, Stays, stay-none, walkOf, goes-none, Walk
 use denote.Exit.{yes}
 use denote.Triple.Clauses.{ensured, lasts}
 use Rattle.paper.specs.Certificate.{row}
-use Rattle.paper.specs.Lines.{judgedLine}
-use Rattle.paper.specs.Tables.{one}
+use Rattle.paper.specs.Lines.{checkedLine}
+use Rattle.paper.specs.Tables.{singleNumber}
 use Rattle.fields.specs.Line.{kindAt}
 use Rattle.fields.specs.Said.{saidField, PlacedField}
 use Rattle.fields.specs.declared.cursor.Field.{Field}
@@ -78,7 +78,7 @@ module _ {M : Type 1} (𝓤 : URA M) (H : Heap 𝓤) (A : Atoms 𝓤) (W : Given
   Known = (k < 10) × (row (kindAt k) .most ≡ 1)
 
   abbrev Found : Field → Type 0
-  Found f = (saidField (now (d .file)) f ≡ judgedLine (row (kindAt k) .key) (one (kindAt k)) (dropped (d .at) (now (d .file)))) × PlacedField (now (d .file)) f
+  Found f = (saidField (now (d .file)) f ≡ checkedLine (row (kindAt k) .key) (singleNumber (kindAt k)) (dropped (d .at) (now (d .file)))) × PlacedField (now (d .file)) f
 
   abbrev Post : Val → SProp 𝓤
   Post = walkOf 𝓤 H A number-line.ended stayed (number-line.clauses 𝓤 H A mem run) .post (((κ, tt), (q, tt), tt, (d, (k, tt)), at), tt)

@@ -40,8 +40,8 @@ use denote.Triple.Walked.{says, Stays, stay-none-slice, walkOf, goes-none-slice,
 use denote.Exit.{yes}
 use denote.Triple.Clauses.{ensured, lasts}
 use Rattle.paper.specs.Certificate.{row, Budget, Arities}
-use Rattle.paper.specs.Lines.{judgedLine}
-use Rattle.paper.specs.Tables.{one, arityList}
+use Rattle.paper.specs.Lines.{checkedLine}
+use Rattle.paper.specs.Tables.{singleNumber, arityList}
 use Rattle.fields.specs.Said.{saidField, PlacedField, Listing}
 use Rattle.fields.specs.declared.cursor.Cursor.{Cursor}
 use Rattle.fields.specs.declared.cursor.Field.{Field}
@@ -137,10 +137,10 @@ module _ {M : Type 1} (𝓤 : URA M) (H : Heap 𝓤) (A : Atoms 𝓤) (W : Given
 
   -- what is said of the two lines
   abbrev First : Field → Type 0
-  First f = (saidField (now s) f ≡ judgedLine (row Budget .key) (one Budget) (now s)) × PlacedField (now s) f
+  First f = (saidField (now s) f ≡ checkedLine (row Budget .key) (singleNumber Budget) (now s)) × PlacedField (now s) f
 
   abbrev Second : Field → Items → Type 0
-  Second f = Listing (now s) 3 (judgedLine (row Arities .key) arityList (dropped (nextIn (now s) f .at) (now s)))
+  Second f = Listing (now s) 3 (checkedLine (row Arities .key) arityList (dropped (nextIn (now s) f .at) (now s)))
 
   abbrev Told : Heading → Type 0
   Told h = (saidHeading (now s) h ≡ firstLines 1 (now s)) × WholeHeading (now s) h

@@ -40,7 +40,7 @@ returns c =
 mask-of-requires : tie.Need-mask-of-requires
 mask-of-requires c κs =
     let w = list-whole _ 31 _ _ (c .before .before .before .before .final-line .ensures) _ _ _ (c .before .before .answer .given .1) in
-    (w .2, λ k. omega (arith, w .1 k))
+    (w .few, λ k. omega (arith, w .low k))
 
 add-from-trans : tie.Need-add-from-trans
 add-from-trans c = search needs

@@ -16,7 +16,7 @@ add-number-line c = search needs
 number-line-requires : tie.Need-number-line-requires
 number-line-requires c κs =
     let s = c .before .before .before in
-    (omega (arith, s .pre .0 .kinds), s .pre .0 .trans)
+    omega (arith, s .pre .0 .kinds)
 
 enum-known-f : tie.Need-enum-known-f
 enum-known-f c = search needs

@@ -11,7 +11,7 @@ use Rattle.blocks.proofs.automata.read_table.Tie as tie
 number-line-requires : tie.Need-number-line-requires
 number-line-requires c κs =
     let s = c .before .before .before .before .before in
-    (omega (arith, s .pre .0 .kinds), s .pre .0 .states)
+    omega (arith, s .pre .0 .kinds)
 
 enum-known-f : tie.Need-enum-known-f
 enum-known-f c = search needs

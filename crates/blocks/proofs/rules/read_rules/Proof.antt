@@ -5,7 +5,7 @@ use Rattle.paper.specs.Format.{rule}
 use Rattle.fields.specs.Padded.{padded}
 use Rattle.blocks.specs.Packed.{packedRules, noRules, sidesOf}
 use Rattle.blocks.proofs.Chain.{handed-stop, handed-went}
-use Rattle.blocks.proofs.Arrays.{padded-length}
+use Rattle.fields.proofs.Whole.{padded-length}
 use Rattle.blocks.proofs.Blocks.{Filling, fill-start, fill-more, fill-stop, fill-end}
 use Rattle.blocks.proofs.RuleLaws.{rule-read, rule-refused, rules-more, stop-is}
 use Rattle.tables.specs.declared.Rules.{Rules}

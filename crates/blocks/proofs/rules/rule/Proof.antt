@@ -34,7 +34,7 @@ no-rule-requires c κs = search needs
 returns : tie.Need-returns
 unfolding rule bytes
 returns c =
-    let h = c .before .before .before .before .left-line .ensures .0 in
+    let h = c .before .before .before .before .left-line .ensures .said in
     rule-none _ _ _ _ _ _ _ _ (c .no-rule .ensures) (then-stop _ _ _ _ _ _ (side-refused _ "l" _ refl _ _ (leftSide _) _ _ h _ _ (c .before .side-refusal .ensures) (c .before .before .enum-told .given .1)))
 
 slice-aggregate-right-line : tie.Need-slice-aggregate-right-line
@@ -63,9 +63,9 @@ returns-2 : tie.Need-returns-2
 unfolding rule bytes
 returns-2 c =
     let g = c .before .before .before .before .before .before .before .a .given .1 in
-    let e = side-read _ "l" _ refl _ _ (leftSide _) _ _ (c .before .before .before .before .before .before .before .before .before .left-line .ensures .0) _ _ _ g in
-    let n = side-counted _ _ _ _ _ (c .before .before .before .before .before .before .before .before .before .left-line .ensures .1) g in
-    let h = c .before .before .before .before .right-line .ensures .0 _ (n .0) in
+    let e = side-read _ "l" _ refl _ _ (leftSide _) _ _ (c .before .before .before .before .before .before .before .before .before .left-line .ensures .said) _ _ _ g in
+    let n = side-counted _ _ _ _ _ (c .before .before .before .before .before .before .before .before .before .left-line .ensures .counted) g in
+    let h = c .before .before .before .before .right-line .ensures .said _ (n .0) in
     rule-none _ _ _ _ _ _ _ _ (c .no-rule2 .ensures)
     (then-next _ _ _ _ _ _ _ e ∙ then-stop _ _ _ _ _ _ (side-refused _ "r" _ refl _ _ (rightSide _ _) _ _ h _ _ (c .before .side-refusal2 .ensures) (c .before .before .enum-told2 .given .1)))
 
@@ -73,19 +73,19 @@ returns-3 : tie.Need-returns-3
 unfolding rule give bytes variableCount HandedRule
 returns-3 c =
     let g = c .before .before .before .before .before .before .before .before .a .given .1 in
-    let e = side-read _ "l" _ refl _ _ (leftSide _) _ _ (c .before .before .before .before .before .before .before .before .before .before .left-line .ensures .0) _ _ _ g in
-    let n = side-counted _ _ _ _ _ (c .before .before .before .before .before .before .before .before .before .before .left-line .ensures .1) g in
-    let h = c .before .before .before .before .before .right-line .ensures .0 _ (n .0) in
+    let e = side-read _ "l" _ refl _ _ (leftSide _) _ _ (c .before .before .before .before .before .before .before .before .before .before .left-line .ensures .said) _ _ _ g in
+    let n = side-counted _ _ _ _ _ (c .before .before .before .before .before .before .before .before .before .before .left-line .ensures .counted) g in
+    let h = c .before .before .before .before .before .right-line .ensures .said _ (n .0) in
     let k = c .before .before .before .b .given .1 in
     let f = side-read _ "r" _ refl _ _ (rightSide _ _) _ _ h _ _ _ k in
     record {
       what = record { left = _; right = _ };
       is = two-lines _ _ _ _ (then-next _ _ _ _ _ _ _ e ∙ then-next _ _ _ _ _ _ _ f);
-      left = side-handed _ _ _ _ _ _ (c .before .before .before .before .before .before .before .before .before .before .left-line .ensures .2) g;
-      right = side-handed _ _ _ _ _ _ (c .before .before .before .before .before .right-line .ensures .1) k;
+      left = side-handed _ _ _ _ _ _ (c .before .before .before .before .before .before .before .before .before .before .left-line .ensures .whole) g;
+      right = side-handed _ _ _ _ _ _ (c .before .before .before .before .before .right-line .ensures .whole) k;
       counted = sym (ap length (n .0) ∙ length-count 0 _);
       few = n .1;
-      placed = side-placed _ _ _ _ _ _ (c .before .before .before .before .before .right-line .ensures .1) k;
+      placed = side-placed _ _ _ _ _ _ (c .before .before .before .before .before .right-line .ensures .whole) k;
     }
 
 pub rule-spec : {M : Type 1} → statement M

@@ -1,7 +1,7 @@
 use mathlib.Core.Path.{_≡_, _∙_}
 use Prim.Native.Nat.{_-_, _≤_, _<_, max}
 use lib.ListN.{take, drop}
-use Rattle.theory.specs.Merging.{largest}
+use Rattle.theory.specs.Automaton.{largest}
 use Rattle.certificate.proofs.ClassLaws.{largest-more, largest-end}
 use borrow.Author.Needs.{needs}
 use native.Mathlib.Omega.{arith}

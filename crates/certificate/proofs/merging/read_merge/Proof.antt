@@ -39,12 +39,12 @@ returns c =
 count-classes-requires : tie.Need-count-classes-requires
 count-classes-requires c κs =
     let w = list-whole _ 31 _ _ (c .before .before .before .before .merge-line .ensures) _ _ _ (c .before .before .answer .given .1) in
-    (w .2, λ k. omega (arith, w .1 k))
+    (w .few, λ k. omega (arith, w .low k))
 
 narrow-requires : tie.Need-narrow-requires
 narrow-requires c κs =
     let w = list-whole _ 31 _ _ (c .before .before .before .before .before .merge-line .ensures) _ _ _ (c .before .before .before .answer .given .1) in
-    λ k. omega (arith, w .1 k)
+    λ k. omega (arith, w .low k)
 
 add-t17 : tie.Need-add-t17
 add-t17 c = search needs
@@ -57,8 +57,8 @@ returns-2 c =
     (record {
       what = _;
       is = numbers-read _ Merge _ refl _ _ 31 (λ kind. classList (c .before .before .before .before .before .before .before .before .before .args .states)) _ (c .before .before .before .before .before .before .merge-line .ensures) _ _ _ (c .before .before .before .before .answer .given .1);
-      packs = merge-packs _ _ (c .before .before .before .before .answer .given .0 .0) _ (c .narrow .ensures) (w .0) (c .before .count-classes .ensures);
-      placed = w .3;
+      packs = merge-packs _ _ (c .before .before .before .before .answer .given .0 .0) _ (c .narrow .ensures) (w .behind) (c .before .count-classes .ensures);
+      placed = w .placed;
       near = omega arith;
     })
 

@@ -40,12 +40,12 @@ returns c =
 narrow-requires : tie.Need-narrow-requires
 narrow-requires c κs =
     let w = list-whole _ 3 _ _ (c .before .before .before .before .arities-line .ensures) _ _ _ (c .before .before .answer .given .1) in
-    λ k. omega (arith, w .1 k)
+    λ k. omega (arith, w .low k)
 
 from-initial-requires : tie.Need-from-initial-requires
 from-initial-requires c κs =
     let w = list-whole _ 3 _ _ (c .before .before .before .before .before .arities-line .ensures) _ _ _ (c .before .before .before .answer .given .1) in
-    ((arities-some _ _ _ 3 _ (c .before .before .before .before .before .arities-line .ensures) _ _ _ (c .before .before .before .answer .given .1), w .2), (same-arities _ _ (c .before .before .before .answer .given .0 .0) (c .narrow .ensures) (w .0), same-bound _ _ 3 (c .narrow .ensures) (w .1)))
+    ((arities-some _ _ _ 3 _ (c .before .before .before .before .before .arities-line .ensures) _ _ _ (c .before .before .before .answer .given .1), w .few), (same-arities _ _ (c .before .before .before .answer .given .0 .0) (c .narrow .ensures) (w .behind), same-bound _ _ 3 (c .narrow .ensures) (w .low)))
 
 returns-2 : tie.Need-returns-2
 unfolding fromArities keyOf row bytes

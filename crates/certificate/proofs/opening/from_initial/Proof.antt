@@ -29,7 +29,7 @@ read-table-requires : tie.Need-read-table-requires
 unfolding keyOf rowKeyOf rowKey row bytes
 read-table-requires c κs =
     let s = c .before .before .before .before .before .before .before in (
-      record { kinds = omega arith; states = refl; most-states = (refl, refl); final = record { least = refl; greatest = refl; empty = refl }; trans = refl; most-trans = refl },
+      record { kinds = omega arith; most-states = (refl, refl); final = record { least = refl; greatest = refl; empty = refl }; most-trans = refl },
       ((refl, refl, refl, refl), ((omega (arith, c .short .ensures, s .pre .0 .0), omega (arith, c .short .ensures, s .pre .0 .1)), (s .pre .1 .1, (search needs, omega arith)))),
     )
 

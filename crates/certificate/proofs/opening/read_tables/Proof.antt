@@ -15,7 +15,7 @@ slice-aggregate-number-line c = search needs
 
 number-line-requires : tie.Need-number-line-requires
 unfolding row
-number-line-requires c κs = (omega arith, refl)
+number-line-requires c κs = omega arith
 
 enum-known-f : tie.Need-enum-known-f
 enum-known-f c = search needs

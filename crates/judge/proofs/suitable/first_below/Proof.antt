@@ -3,7 +3,7 @@ use Prim.Native.Nat.{_-_, _≤_}
 use native.Mathlib.Omega.{arith}
 use mathlib.Core.Path.{_≡_, sym, ap, _∙_}
 use Rattle.sets.specs.Sets.{mem}
-use Rattle.paper.specs.Verdict.{smallest}
+use Rattle.paper.specs.Computed.{smallest}
 use Rattle.judge.specs.Pairs.{saidFirst}
 use Rattle.judge.proofs.Seek.{smallest-here, smallest-on, smallest-end}
 use Rattle.judge.proofs.suitable.first_below.Statement.{statement}

@@ -1,10 +1,7 @@
 -- `lanes::prefixes::pair` meets its contract. Assumes nothing.
-use mathlib.Core.Path.{_≡_, refl, sym, ap, _∙_}
-use mathlib.Core.List.{List, _∷_}
+use mathlib.Core.Path.{_≡_, sym, ap}
 use Prim.Native.Nat.{ℕ}
-use Rattle.verdicts.specs.Said.{classThen, classesOf}
-use Rattle.lanes.specs.Prefixes.{chosen}
-use Rattle.lanes.proofs.Shown.{shown-class}
+use Rattle.lanes.specs.Prefixes.{chosen, pairOf}
 use native.Mathlib.Omega.{arith}
 use borrow.Author.Needs.{needs}
 use Rattle.lanes.proofs.prefixes.pair.Statement.{statement}
@@ -20,49 +17,45 @@ cast-last : tie.Need-cast-last
 cast-last c = search needs
 
 returns : tie.Need-returns
-unfolding classesOf classThen chosen
+unfolding chosen pairOf
 returns c =
-    let start = c .before in
-    let a = start .args in
-    (refl, sym (ap (λ (n : ℕ). chosen n (a .x0) (a .x1) (a .x2) (a .j)) (c .if1 .taken)), refl)
+    let a = c .before .args in
+    sym (ap (λ (n : ℕ). pairOf (a .rule) n (a .x0) (a .x1) (a .x2) (a .j) (a .q)) (c .if1 .taken))
 
 returns-2 : tie.Need-returns-2
-unfolding classesOf classThen chosen
+unfolding chosen pairOf
 returns-2 c =
-    let start = c .before .before in
-    let a = start .args in
-    (refl, shown-class (a .j) _ (start .pre .5) ∙ sym (ap (λ (n : ℕ). chosen n (a .x0) (a .x1) (a .x2) (a .j)) (c .if2 .taken)), refl)
+    let a = c .before .before .args in
+    sym (ap (λ (n : ℕ). pairOf (a .rule) n (a .x0) (a .x1) (a .x2) (a .j) (a .q)) (c .if2 .taken))
 
 cast-first : tie.Need-cast-first
 cast-first c = search needs
 
 returns-3 : tie.Need-returns-3
-unfolding classesOf classThen chosen
+unfolding chosen pairOf
 returns-3 c =
-    let start = c .before .before .before in
-    let a = start .args in
-    (refl, shown-class (a .x0) _ (start .pre .2) ∙ ap (λ (ys : List ℕ). a .x0 ∷ ys) (shown-class (a .j) _ (start .pre .5)) ∙ sym (ap (λ (n : ℕ). chosen n (a .x0) (a .x1) (a .x2) (a .j)) (c .if3 .taken)), refl)
+    let a = c .before .before .before .args in
+    sym (ap (λ (n : ℕ). pairOf (a .rule) n (a .x0) (a .x1) (a .x2) (a .j) (a .q)) (c .if3 .taken))
 
 cast-second : tie.Need-cast-second
 cast-second c = search needs
 
 returns-4 : tie.Need-returns-4
-unfolding classesOf classThen chosen
+unfolding chosen pairOf
 returns-4 c =
-    let start = c .before .before .before .before in
-    let a = start .args in
-    (refl, shown-class (a .x0) _ (start .pre .2) ∙ ap (λ (ys : List ℕ). a .x0 ∷ ys) (shown-class (a .x1) _ (start .pre .3) ∙ ap (λ (ys : List ℕ). a .x1 ∷ ys) (shown-class (a .j) _ (start .pre .5))) ∙ sym (ap (λ (n : ℕ). chosen n (a .x0) (a .x1) (a .x2) (a .j)) (c .if4 .taken)), refl)
+    let a = c .before .before .before .before .args in
+    sym (ap (λ (n : ℕ). pairOf (a .rule) n (a .x0) (a .x1) (a .x2) (a .j) (a .q)) (c .if4 .taken))
 
 cast-t14 : tie.Need-cast-t14
 cast-t14 c = search needs
 
 returns-5 : tie.Need-returns-5
-unfolding classesOf classThen chosen
+unfolding chosen pairOf
 returns-5 c =
     let start = c .before .before .before .before in
     let a = start .args in
     let four : a .v ≡ 4 = omega (arith, c .if4 .left, c .before .if3 .left, c .before .before .if2 .left, c .before .before .before .if1 .left, start .pre .1) in
-    (refl, shown-class (a .x0) _ (start .pre .2) ∙ ap (λ (ys : List ℕ). a .x0 ∷ ys) (shown-class (a .x1) _ (start .pre .3) ∙ ap (λ (ys : List ℕ). a .x1 ∷ ys) (shown-class (a .x2) _ (start .pre .4) ∙ ap (λ (ys : List ℕ). a .x2 ∷ ys) (shown-class (a .j) _ (start .pre .5)))) ∙ sym (ap (λ (n : ℕ). chosen n (a .x0) (a .x1) (a .x2) (a .j)) (four)), refl)
+    sym (ap (λ (n : ℕ). pairOf (a .rule) n (a .x0) (a .x1) (a .x2) (a .j) (a .q)) four)
 
 pub pair-spec : {M : Type 1} → statement M
 pair-spec =

@@ -18,7 +18,7 @@ enum-told c = search needs
 
 returns : tie.Need-returns
 unfolding PlacedField
-returns c = (one-told _ _ (c .before .before .before .before .before .args .kind) _ _ (c .before .before .before .before .before .pre .1) (sym (line-missing _ _ _ _ (sym (c .before .before .open .ensures) ∙ c .enum-told .given .1))), tt)
+returns c = (one-told _ _ (c .before .before .before .before .before .args .kind) _ _ (sym (line-missing _ _ _ _ (sym (c .before .before .open .ensures) ∙ c .enum-told .given .1))), tt)
 
 number-requires : tie.Need-number-requires
 number-requires c κs = search needs
@@ -35,7 +35,7 @@ returns-2 c =
     let n = c .before .before in
     let b = n .before .before in
     let o = sym (b .before .before .open .ensures) ∙ b .c .given .1 in (
-      one-told _ _ (b .before .before .before .before .before .args .kind) _ _ (b .before .before .before .before .before .pre .1)
+      one-told _ _ (b .before .before .before .before .before .args .kind) _ _
           (sym (line-refused _ _ _ _ _ o _ (sym (n .number .ensures) ∙ c .enum-told2 .given .1))),
       tt,
     )
@@ -48,7 +48,7 @@ returns-3 c =
     let b = n .before .before in
     let o = sym (b .before .before .open .ensures) ∙ b .c .given .1 in
     let e = sym (n .number .ensures) ∙ v .value .given .1 in (
-      one-told _ _ (b .before .before .before .before .before .args .kind) _ _ (b .before .before .before .before .before .pre .1)
+      one-told _ _ (b .before .before .before .before .before .args .kind) _ _
           (sym (line-end _ _ _ _ _ o _ _ e (c .if1 .taken))),
       tt,
     )
@@ -64,7 +64,7 @@ returns-4 c =
     let b = n .before .before in
     let o = sym (b .before .before .open .ensures) ∙ b .c .given .1 in
     let e = sym (n .number .ensures) ∙ v .value .given .1 in (
-      one-told _ _ (b .before .before .before .before .before .args .kind) _ _ (b .before .before .before .before .before .pre .1)
+      one-told _ _ (b .before .before .before .before .before .args .kind) _ _
           (sym (line-other _ _ _ _ _ o _ _ e (c .before .before .if1 .left) (c .if2 .taken))),
       tt,
     )
@@ -81,7 +81,7 @@ returns-5 c =
     let b = n .before .before in
     let o = sym (b .before .before .open .ensures) ∙ b .c .given .1 in
     let e = sym (n .number .ensures) ∙ v .value .given .1 in (
-      one-told-by _ _ (b .before .before .before .before .before .args .kind) _ _ _ (b .before .before .before .before .before .pre .1) (r .row-of .ensures)
+      one-told-by _ _ (b .before .before .before .before .before .args .kind) _ _ _ (r .row-of .ensures)
           (sym (line-under _ _ _ _ _ o _ _ e (r .before .before .before .if1 .left) (r .before .if2 .left) (c .if3 .taken))),
       tt,
     )
@@ -95,7 +95,7 @@ returns-6 c =
     let b = n .before .before in
     let o = sym (b .before .before .open .ensures) ∙ b .c .given .1 in
     let e = sym (n .number .ensures) ∙ v .value .given .1 in (
-      one-told-by _ _ (b .before .before .before .before .before .args .kind) _ _ _ (b .before .before .before .before .before .pre .1) (r .row-of .ensures)
+      one-told-by _ _ (b .before .before .before .before .before .args .kind) _ _ _ (r .row-of .ensures)
           (sym (line-over _ _ _ _ _ o _ _ e (r .before .before .before .if1 .left) (r .before .if2 .left) (c .before .before .if3 .left) (c .if4 .taken))),
       tt,
     )
@@ -112,7 +112,7 @@ returns-7 c =
     let b = n .before .before in
     let o = sym (b .before .before .open .ensures) ∙ b .c .given .1 in
     let e = sym (n .number .ensures) ∙ v .value .given .1 in (
-      one-told-by _ _ (b .before .before .before .before .before .args .kind) _ _ _ (b .before .before .before .before .before .pre .1) (r .row-of .ensures)
+      one-told-by _ _ (b .before .before .before .before .before .args .kind) _ _ _ (r .row-of .ensures)
           (sym (line-in _ _ _ _ _ o _ _ e (r .before .before .before .if1 .left) (r .before .if2 .left) (c .before .before .if3 .left) (c .if4 .left))),
       omega (arith, r .before .before .before .if1 .left),
     )
