@@ -1,5 +1,5 @@
-//! The linked checker, called from Rust: the examples' answers, the refusals, and the bytes that must stay.
-use mergecheck::{answer, check, Answered, BUFFER};
+//! The linked checker, called from Rust: the examples' answers, those to the two questions, the refusals, and the bytes that must stay.
+use mergecheck::{answer, check, closure, sharing, Answered, Closure, CriticalPair, Refusal, Sharing, BUFFER};
 use std::path::PathBuf;
 
 fn example(name: &str) -> Vec<u8> {
@@ -35,6 +35,96 @@ fn worked_certificates() {
     ];
     for (name, expected) in table {
         assert_eq!(answer(&example(&format!("{name}.cert"))), expected, "{name}");
+    }
+}
+
+fn closed(examined: u32) -> Closure {
+    Closure::Closed { examined }
+}
+
+fn stopped(examined: u32) -> Closure {
+    Closure::Stopped { examined }
+}
+
+fn critical(rule: u8, x: &[u8], class: u8, examined: u32) -> Closure {
+    Closure::Critical { pair: CriticalPair { rule, x: x.to_vec(), class }, examined }
+}
+
+#[test]
+fn worked_certificates_of_the_two_questions() {
+    let none = Sharing::None;
+    let shared = |class, bad| Sharing::Shared { class, bad };
+    let table = [
+        ("K1", none, closed(3)),
+        ("K2", none, critical(0, &[3], 1, 4)),
+        ("K3", shared(0, 2), closed(1)),
+        ("K4", none, critical(0, &[2], 1, 3)),
+        ("K5", shared(1, 2), closed(3)),
+        ("K6", none, closed(3)),
+        ("K7", none, stopped(2)),
+        ("K8a", none, stopped(3)),
+        ("K8b", none, critical(0, &[3], 1, 4)),
+        ("K9", none, closed(0)),
+        ("K10", none, critical(0, &[0], 2, 1)),
+        ("K11", none, critical(0, &[], 0, 1)),
+        ("K12", none, critical(1, &[0], 2, 4)),
+        ("closed-unsafe", shared(0, 1), closed(1)),
+    ];
+    for (name, about_sharing, about_closure) in table {
+        let file = example(&format!("{name}.cert"));
+        assert_eq!(sharing(&file), about_sharing, "{name}");
+        assert_eq!(closure(&file), about_closure, "{name}");
+    }
+}
+
+/// The example with pieces of its text replaced, each of which stands there once.
+fn changed(changes: &[(&str, &str)]) -> Vec<u8> {
+    let mut text = String::from_utf8(example("K1.cert")).unwrap();
+    for (old, new) in changes {
+        assert_eq!(text.matches(old).count(), 1, "{old:?}");
+        text = text.replace(old, new);
+    }
+    text.into_bytes()
+}
+
+/// K5's merging, with K10's rule as a second one: the whole verdict does not tell the critical pair, and closure does.
+#[test]
+fn critical_though_unsuitable() {
+    let two_rules = ("rules=1\nl=2,x0\nr=2,1,1,x0\n", "rules=2\nl=2,x0\nr=2,1,1,x0\nl=1,x0\nr=x0\n");
+    let merging = ("merge=0,1,2,0\n", "merge=0,1,2,2\n");
+    let file = changed(&[two_rules, merging]);
+    assert_eq!(answer(&file), lines(["unsuitable", "-", "-", "-", "-", "1", "2", "0"]));
+    assert_eq!(sharing(&file), Sharing::Shared { class: 1, bad: 2 });
+    assert_eq!(closure(&file), critical(1, &[0], 2, 4));
+    let file = changed(&[two_rules, merging, ("budget=1000\n", "budget=3\n")]);
+    assert_eq!(sharing(&file), Sharing::Shared { class: 1, bad: 2 });
+    assert_eq!(closure(&file), stopped(3));
+}
+
+/// All four places of `x` in use: the place counts `x0` as the most significant.
+#[test]
+fn four_variables() {
+    let file = b"budget=99\narities=2\nstates=2\nfinal=\ntrans=2\nt=0,1,0,1\nt=0,1,1,0\nbadstates=1\nbadfinal=\nbadtrans=0\n\
+        rules=1\nl=0,0,x0,x1,0,x2,x3\nr=x0\nmerge=0,1\n";
+    assert_eq!(sharing(file), Sharing::None);
+    assert_eq!(closure(file), critical(0, &[1, 0, 1, 0], 0, 11));
+}
+
+#[test]
+fn refusals_of_the_two_questions() {
+    let mut behind = example("K1.cert");
+    behind.push(b'\n');
+    let table = [
+        (vec![], 3, Some(1)),
+        (vec![0u8; 16384], 3, Some(1)),
+        (vec![0u8; 16385], 2, None),
+        (behind, 3, Some(21)),
+        (changed(&[("merge=0,1,2,0\n", "merge=0,2,1,0\n")]), 11, Some(20)),
+        (changed(&[("\nfinal=1\n", "\nfinal=1,1\n")]), 7, Some(4)),
+    ];
+    for (file, number, line) in table {
+        assert_eq!(sharing(&file), Sharing::Malformed(Refusal { number, line }));
+        assert_eq!(closure(&file), Closure::Malformed(Refusal { number, line }));
     }
 }
 

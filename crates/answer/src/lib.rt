@@ -1,8 +1,12 @@
 // The eight lines of an answer, written into a lent buffer.
 mod eight;
 mod put;
+mod questions;
+mod seven;
 
 pub use eight::write;
+pub use questions::write_closure;
+pub use questions::write_sharing;
 use verdicts::CriticalPair;
 
 // What stands after a line's key: `-`, a number, or a critical pair's classes.

@@ -1,6 +1,6 @@
--- The three demands, of whatever the public operation may give back: `Answers` is its contract.
-use mathlib.Core.Path.{_≡_, refl, sym, ap, _∙_}
-use mathlib.Core.Logic.{inl, inr}
+-- The three demands, of whatever the public operation may give back: `Answers` is its contract. And what the two questions' answers say.
+use mathlib.Core.Path.{_≡_, refl, sym, ap, ap₂, _∙_}
+use mathlib.Core.Logic.{inl, inr, _↔_}
 use mathlib.Core.List.{List, [], List·Memᴰ}
 use mathlib.Core.Option.{Option, none, some}
 use Prim.Native.Nat.{ℕ, _≤_, _<_}
@@ -8,15 +8,17 @@ use native.Mathlib.Omega.{arith}
 use borrow.Author.Tests.{ltb-true, ltb-false}
 use lib.Dec.{ltb}
 use lib.ListN.{length, take, drop, getD}
-use Rattle.theory.specs.Rewriting.{Safe}
-use Rattle.theory.specs.Automaton.{classes, merged}
+use Rattle.theory.specs.Term.{Tree}
+use Rattle.theory.specs.Rewriting.{Rewrites, Safe}
+use Rattle.theory.specs.Automaton.{Accepts, classes, merged}
 use Rattle.theory.specs.Critical.{Acritical, Suitable}
 use Rattle.paper.specs.Bytes.{bytes}
 use Rattle.paper.specs.Limits.{mostBytes, leastBuffer}
 use Rattle.paper.specs.Certificate.{Certificate}
 use Rattle.paper.specs.Format.{File, unreadable, holds, readFile}
-use Rattle.paper.specs.Meaning.{malformed, unsuitable, critical, accepted, stopped, Verdict, total, Means, Given}
-use Rattle.paper.specs.Computed.{verdictOn, verdictOf}
+use Rattle.paper.specs.Meaning as Paper
+use Rattle.paper.specs.Meaning.{malformed, unsuitable, critical, accepted, stopped, Verdict, Asked, together, total, Means, Given, SharingGiven, ClosureGiven}
+use Rattle.paper.specs.Computed.{verdictOn, verdictOf, sharingOf, closureOf}
 use Rattle.paper.specs.Answer.{lineWith, eight, answer, answerOf}
 use Rattle.paper.specs.Contract.{Returned, refusal, returned}
 use Rattle.paper.specs.Layout.{First, laidCertificate}
@@ -25,8 +27,14 @@ use Rattle.paper.proofs.Smallest.{decided}
 use Rattle.paper.proofs.Known.{known}
 use Rattle.paper.proofs.Refused.{refused-exact, too-long-exact}
 use Rattle.paper.proofs.Demands.{given-exactly, accepted-exactly, malformed-exactly, accepted-is-safe}
+use Rattle.paper.proofs.Questions.{sharing-exactly, closure-exactly, sharing-refused, closure-refused, closure-answers, closed-closes, put-together}
 use Rattle.paper.proofs.Contract.{short-untouched, answer-stands, rest-stays, number-and-length}
 use Rattle.paper.proofs.Distinct.{answer-tells}
+use Rattle.verdicts.specs.declared.Sharing.{Sharing}
+use Rattle.verdicts.specs.declared.Closure.{Closure}
+use Rattle.verdicts.specs.declared.Closure.the-variants.{Closed}
+use Rattle.verdicts.specs.Said.{saidSharing, saidClosure, Tells}
+use Rattle.verdicts.proofs.Told.{one-sharing, one-closure}
 use Rattle.checker.specs.declared.Answered.{Answered}
 use Rattle.checker.specs.Gave.{gave, Answers, Begins}
 
@@ -139,3 +147,43 @@ module _ (file buffer : List ℕ) (r : Answered) (left : List ℕ) (given : Answ
       let (number, count, bs, later) = written h in
       let is = accepted-exactly file c e (total (classes (c .merge)) (c .rules)) .1 (s, a, l, refl) in
       rw (bs, is) (begins-accepted (total (classes (c .merge)) (c .rules)))
+
+-- The first question. Two results that its contract allows are the same ..
+pub one-sharing-answer : (file : List ℕ) (r s : Sharing) → saidSharing r ≡ sharingOf file → saidSharing s ≡ sharingOf file → r ≡ s
+one-sharing-answer file r s d e = one-sharing r s (d ∙ sym e)
+
+module _ (file : List ℕ) (r : Sharing) (given : saidSharing r ≡ sharingOf file) where
+  -- .. it says what there is of final pairs that share a tree, both ways ..
+  pub sharing-told : (c : Certificate) → readFile file ≡ holds c → (s : Paper.Sharing) → (saidSharing r ≡ Asked.answered s) ↔ SharingGiven c s
+  sharing-told c e s = let (to, from) = sharing-exactly file c e s in (λ h. to (sym given ∙ h), λ g. given ∙ from g)
+
+  -- .. or refuses the file as the reading does.
+  pub sharing-refusal-told : (number : ℕ) (line : Option ℕ) → (saidSharing r ≡ Asked.refused number line) ↔ (readFile file ≡ unreadable number line)
+  sharing-refusal-told number line = let (to, from) = sharing-refused file number line in (λ h. to (sym given ∙ h), λ e. given ∙ from e)
+
+-- The second. Two results that its contract allows are the same ..
+pub one-closure-answer : (file : List ℕ) (r s : Closure) → Tells (closureOf file) r → Tells (closureOf file) s → r ≡ s
+one-closure-answer file = one-closure (closureOf file)
+
+module _ (file : List ℕ) (r : Closure) (given : Tells (closureOf file) r) where
+  -- .. it says what there is of critical pairs within the budget, both ways ..
+  pub closure-told : (c : Certificate) → readFile file ≡ holds c → (k : Paper.Closure) → (saidClosure r ≡ Asked.answered k) ↔ ClosureGiven c k
+  closure-told c e k = let (to, from) = closure-exactly file c e k in (λ h. to (sym (given .says) ∙ h), λ g. given .says ∙ from g)
+
+  -- .. or refuses the file as the reading does.
+  pub closure-refusal-told : (number : ℕ) (line : Option ℕ) → (saidClosure r ≡ Asked.refused number line) ↔ (readFile file ≡ unreadable number line)
+  closure-refusal-told number line = let (to, from) = closure-refused file number line in (λ h. to (sym (given .says) ∙ h), λ e. given .says ∙ from e)
+
+  -- Where it says closed, the file holds tables, and every tree that A accepts, rewritten any number of times, is accepted by the merged automaton.
+  pub closed-told : (n : ℕ) → r ≡ Closed n → (c : Certificate) × (readFile file ≡ holds c) × ((s t : Tree) → Accepts (c .A) s → Rewrites (c .rules) s t → Accepts (merged (c .merge) (c .A)) t)
+  unfolding saidClosure
+  closed-told n e =
+      let said : closureOf file ≡ Asked.answered (Paper.Closure.closed n) = sym (given .says) ∙ ap saidClosure e in
+      elim (closure-answers file) [
+        | inl (number, line, f, h) ↦ let both : Asked.refused number line ≡ Asked.answered (Paper.Closure.closed n) = sym f ∙ said in let z : _≡_ {A = ℕ} 0 1 = cc in absurd (omega arith)
+        | inr (c, h, f) ↦ (c, h, closed-closes file n said c h)
+      ]
+
+-- The verdict is what the two say together.
+pub told-together : (file : List ℕ) (r : Sharing) (k : Closure) → saidSharing r ≡ sharingOf file → Tells (closureOf file) k → verdictOf file ≡ together (saidSharing r) (saidClosure k)
+told-together file r k d e = put-together file ∙ sym (ap₂ together d (e .says))

@@ -1,3 +1,4 @@
 pub mod Laws
 pub mod Judged
+pub mod Numbers
 pub mod Demands

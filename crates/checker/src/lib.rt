@@ -1,7 +1,13 @@
-// The public operation: a file and a lent buffer in, the answer in the buffer out.
+// The public operations: a file and a lent buffer in, the answer in the buffer out; and the two questions, a file in, a value out.
 mod export;
+mod first_question;
+mod second_question;
 
 pub use export::mergecheck;
+pub use export::mergecheck_closure;
+pub use export::mergecheck_sharing;
+pub use first_question::sharing;
+pub use second_question::closure;
 use verdicts::Verdict;
 ghost use mathlib.Core.Path.{_≡_};
 ghost use Prim.Native.Nat.{_≤_};

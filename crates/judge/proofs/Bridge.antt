@@ -14,7 +14,7 @@ use Rattle.theory.specs.Critical.{Share}
 use Rattle.theory.proofs.Grow.{share-more}
 use Rattle.theory.proofs.Merged.{merged-in-range}
 use Rattle.paper.specs.Limits.{mostTransitions, mostStates, mostArity}
-use Rattle.paper.specs.Computed.{sharedPair}
+use Rattle.paper.specs.Computed.{sharing}
 use Rattle.paper.proofs.Bounds.{classes-bound}
 use Rattle.paper.proofs.Exact.{listed-iff, in-range, final-classes}
 use Rattle.sets.specs.Sets.{mem}
@@ -156,7 +156,7 @@ module _ (t : Tables) (m : Merging) (s : Sound t m) where
     )
 
     -- What is found over the marked pairs is the pair that the paper names.
-    pub found-is : (pairs : List ℕ) → Exact here there ar pairs → (mask : ℕ) → mem mask ≡ finalClass (t .initial .finals) (m .merge) (t .initial .states) → sharedOf pairs mask (t .bad .finals) 0 (m .classes) (t .bad .states) ≡ sharedPair (mergedOf t m) (badOf t)
+    pub found-is : (pairs : List ℕ) → Exact here there ar pairs → (mask : ℕ) → mem mask ≡ finalClass (t .initial .finals) (m .merge) (t .initial .states) → sharedOf pairs mask (t .bad .finals) 0 (m .classes) (t .bad .states) ≡ sharing (mergedOf t m) (badOf t)
     unfolding merged automatonOf held
     found-is pairs e mask f =
         ap (λ k. sharedOf pairs mask (t .bad .finals) 0 k (t .bad .states)) (s .classes)

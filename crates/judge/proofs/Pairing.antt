@@ -10,11 +10,11 @@ use native.Mathlib.Decide.{decLe}
 use lib.ListN.{getD}
 use Rattle.theory.specs.Automaton.{Automaton, InRange}
 use Rattle.theory.specs.Critical.{Share, Suitable}
-use Rattle.paper.specs.Computed.{sharedPair}
-use Rattle.paper.specs.Meaning.{Smallest, FinalPair}
+use Rattle.paper.specs.Computed.{sharing}
+use Rattle.paper.specs.Meaning.{Sharing, Smallest, FinalPair, SharingMeans}
 use Rattle.paper.proofs.Smallest.{decided, smallest-some, smallest-none}
 use Rattle.paper.proofs.Examined.{found}
-use Rattle.paper.proofs.Exact.{FinalInRange, pair-named, pair-none}
+use Rattle.paper.proofs.Exact.{FinalInRange, sharing-exact}
 use Rattle.sets.specs.Sets.{mem}
 use Rattle.judge.specs.Pairs.{pairOr, partner, sharedOf}
 
@@ -24,9 +24,9 @@ module _ (pairs : List ℕ) (finals bad m : ℕ) where
   mate q = partner pairs finals bad m q
 
   -- None has a partner; or one has, and none before it.
-  data First (n k : ℕ) : Option (ℕ × ℕ) → Type 0 where
-    nobody : ((r : ℕ) → n ≤ r → r < n + k → mate r ≡ none) → First n k none
-    this : {q p : ℕ} → q < n + k → mate q ≡ some p → ((r : ℕ) → n ≤ r → r < q → mate r ≡ none) → First n k (some (q, p))
+  data First (n k : ℕ) : Sharing → Type 0 where
+    nobody : ((r : ℕ) → n ≤ r → r < n + k → mate r ≡ none) → First n k Sharing.nothing
+    this : {q p : ℕ} → q < n + k → mate q ≡ some p → ((r : ℕ) → n ≤ r → r < q → mate r ≡ none) → First n k (Sharing.shared q p)
 
   first : (n k : ℕ) → First n k (sharedOf pairs finals bad n k m)
   unfolding sharedOf pairOr
@@ -39,7 +39,7 @@ module _ (pairs : List ℕ) (finals bad m : ℕ) where
       before : mate n ≡ none → (r : ℕ) → n ≤ r → (suc n ≤ r → mate r ≡ none) → mate r ≡ none
       before e r l h = elim (decLe (suc n) r) [ yes i ↦ h i | no i ↦ let same : r ≡ n = omega arith in rw same e ]
 
-      past : mate n ≡ none → {o : Option (ℕ × ℕ)} → First (suc n) k o → First n (suc k) o
+      past : mate n ≡ none → {o : Sharing} → First (suc n) k o → First n (suc k) o
       past e (nobody h) = nobody (λ r l u. before e r l (λ i. h r i (omega arith)))
       past e (this {q = q} u f h) = this {q = q} (omega arith) f (λ r l v. before e r l (λ i. h r i v))
 
@@ -71,13 +71,12 @@ module _ (M B : Automaton) (inM : InRange M) (inB : InRange B) (finM : FinalInRa
       let f = final-class q .1 (w .class) in
       smallest-none (λ p. mem (getD pairs q 0) p && mem bad p) 0 (B .states) (rw (f, partner) at e) p (omega arith) (omega (arith, finB p (w .state))) (and-eq-true-iff _ _ .1 (marked q p .1 (w .shared), final-state p (finB p (w .state)) .1 (w .state)))
 
-  pub shared-is : sharedOf pairs finals bad 0 (M .states) (B .states) ≡ sharedPair M B
-  unfolding Suitable
-  shared-is = go (sharedOf pairs finals bad 0 (M .states) (B .states)) (first pairs finals bad (B .states) 0 (M .states))
+  pub shared-is : sharedOf pairs finals bad 0 (M .states) (B .states) ≡ sharing M B
+  unfolding SharingMeans Suitable
+  shared-is = sym (sharing-exact M B inM inB finM finB (sharedOf pairs finals bad 0 (M .states) (B .states)) .1 (go (sharedOf pairs finals bad 0 (M .states) (B .states)) (first pairs finals bad (B .states) 0 (M .states))))
     where
-      go : (o : Option (ℕ × ℕ)) → First pairs finals bad (B .states) 0 (M .states) o → o ≡ sharedPair M B
-      go none (nobody h) = sym (pair-none M B inM inB finM finB (λ q p f g s. mate-none q (h q (omega arith) (omega (arith, finM q f))) p (record { class = f; state = g; shared = s })))
-      go (some qp) (this u e h) =
-          let (q, p) = qp in
+      go : (o : Sharing) → First pairs finals bad (B .states) 0 (M .states) o → SharingMeans M B o
+      go Sharing.nothing (nobody h) = λ q p f g s. mate-none q (h q (omega arith) (omega (arith, finM q f))) p (record { class = f; state = g; shared = s })
+      go (Sharing.shared q p) (this u e h) =
           let s = mate-some q p e in
-          sym (pair-named M B inM inB finM finB q p (record { itself = (p, s .itself); least = λ r (o, w). elim (decLe q r) [ yes l ↦ l | no l ↦ absurd (mate-none r (h r (omega arith) (omega arith)) o w) ] }) s)
+          (record { itself = (p, s .itself); least = λ r (o, w). elim (decLe q r) [ yes l ↦ l | no l ↦ absurd (mate-none r (h r (omega arith) (omega arith)) o w) ] }, s)

@@ -9,6 +9,7 @@ use lib.ListN.{getD}
 use lib.Bits.{bitAnd}
 use Rattle.sets.specs.Sets.{mem}
 use Rattle.sets.proofs.Laws.{mem-and}
+use Rattle.paper.specs.Meaning.{Sharing}
 use Rattle.paper.specs.Computed.{smallest}
 use Rattle.judge.specs.Pairs.{pairOr, partner, sharedOf}
 
@@ -42,7 +43,7 @@ module _ (pairs : List ℕ) (finals bad m q k : ℕ) where
   unfolding partner
   partner-off e = rw (e, partner)
 
-  pub shared-here : q < k → (p : ℕ) → partner pairs finals bad m q ≡ some p → sharedOf pairs finals bad q (k - q) m ≡ some (q, p)
+  pub shared-here : q < k → (p : ℕ) → partner pairs finals bad m q ≡ some p → sharedOf pairs finals bad q (k - q) m ≡ Sharing.shared q p
   unfolding sharedOf pairOr
   shared-here h p e = rw (left q k h) (rw e)
 
@@ -50,6 +51,6 @@ module _ (pairs : List ℕ) (finals bad m q k : ℕ) where
   unfolding sharedOf pairOr
   shared-on h e = rw (left q k h) (rw e (ap (λ n. sharedOf pairs finals bad n (k - (q + 1)) m) (omega arith)))
 
-  pub shared-end : k ≤ q → sharedOf pairs finals bad q (k - q) m ≡ none
+  pub shared-end : k ≤ q → sharedOf pairs finals bad q (k - q) m ≡ Sharing.nothing
   unfolding sharedOf
   shared-end h = let nothing : k - q ≡ 0 = omega arith in rw nothing

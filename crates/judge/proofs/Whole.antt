@@ -1,7 +1,6 @@
--- The search over the woven table is the paper's over the merged automaton, and the verdict is put together from sharing and the search.
-use mathlib.Core.Path.{_≡_, ap, _∙_}
+-- The search over the woven table is the paper's over the merged automaton, and the verdict on what the tables hold is put together from the two questions.
+use mathlib.Core.Path.{_≡_, refl, ap, _∙_}
 use mathlib.Core.List.{List}
-use mathlib.Core.Option.{none, some}
 use Prim.Native.Nat.{ℕ, _*_, _≤_}
 use native.Mathlib.Omega.{arith}
 use lib.ListN.{length-map}
@@ -11,8 +10,8 @@ use Rattle.theory.proofs.Count.{length-count}
 use Rattle.theory.proofs.Grow.{Contained}
 use Rattle.theory.proofs.Merged.{merged-in-range}
 use Rattle.paper.specs.Limits.{mostRules}
-use Rattle.paper.specs.Meaning.{unsuitable}
-use Rattle.paper.specs.Computed.{cases, sharedPair, examine, judge, verdict}
+use Rattle.paper.specs.Meaning.{Sharing, Asked, together}
+use Rattle.paper.specs.Computed.{cases, sharing, examine, closure, judge, verdict, sharingIn, closureIn}
 use Rattle.tables.specs.declared.Tables.{Tables}
 use Rattle.tables.specs.declared.Merging.{Merging}
 use Rattle.tables.specs.Held.{automatonOf as tableOf, aritiesOf, rulesOf, mergeOf, held}
@@ -71,16 +70,21 @@ module _ (t : Tables) (m : Merging) (s : Sound t m) where
       }
 
       -- What it says is what the paper says of the merged automaton.
-      pub examined-is : (budget : ℕ) → examine woven (cases (m .classes) 0 (rulesOf ar (t .rules))) budget 0 ≡ examine (mergedOf t m) (cases (mergedOf t m .states) 0 (rulesOf ar (t .rules))) budget 0
-      unfolding automatonOf merged
-      examined-is budget = examine-same woven (mergedOf t m) there back (s .classes) (cases (m .classes) 0 (rulesOf ar (t .rules))) budget 0 ∙ ap (λ k. examine (mergedOf t m) (cases k 0 (rulesOf ar (t .rules))) budget 0) (s .classes)
+      pub closure-is : (budget : ℕ) → closure woven (rulesOf ar (t .rules)) budget ≡ closure (mergedOf t m) (rulesOf ar (t .rules)) budget
+      unfolding closure automatonOf merged
+      closure-is budget = examine-same woven (mergedOf t m) there back (s .classes) (cases (m .classes) 0 (rulesOf ar (t .rules))) budget 0 ∙ ap (λ k. examine (mergedOf t m) (cases k 0 (rulesOf ar (t .rules))) budget 0) (s .classes)
 
--- The verdict, where a final pair shares a tree ..
-pub verdict-shared : (t : Tables) (m : Merging) (q p : ℕ) → sharedPair (mergedOf t m) (badOf t) ≡ some (q, p) → verdict (held t m) ≡ unsuitable q p
-unfolding verdict judge held
-verdict-shared t m q p e = rw (e, judge)
+module _ (t : Tables) (m : Merging) where
+  -- The two questions of what the tables hold.
+  pub sharing-held : sharingIn (held t m) ≡ sharing (mergedOf t m) (badOf t)
+  unfolding sharingIn held
+  sharing-held = refl
 
--- .. and where none does.
-pub verdict-searched : (t : Tables) (m : Merging) → sharedPair (mergedOf t m) (badOf t) ≡ none → verdict (held t m) ≡ examine (mergedOf t m) (cases (mergedOf t m .states) 0 (rulesOf (aritiesOf t) (t .rules))) (t .budget) 0
-unfolding verdict judge held
-verdict-searched t m e = rw (e, judge)
+  pub closure-held : closureIn (held t m) ≡ closure (mergedOf t m) (rulesOf (aritiesOf t) (t .rules)) (t .budget)
+  unfolding closureIn held
+  closure-held = refl
+
+  -- The verdict on it is put together from the two.
+  pub verdict-held : (s : Asked Sharing) → s ≡ Asked.answered (sharingIn (held t m)) → together s (Asked.answered (closureIn (held t m))) ≡ verdict (held t m)
+  unfolding verdict judge sharingIn closureIn together
+  verdict-held s e = ap (λ o. together o (Asked.answered (closureIn (held t m)))) e

@@ -4,26 +4,20 @@ use mathlib.Core.Bool.{true, false, _&&_}
 use mathlib.Core.List.{List}
 use mathlib.Core.Option.{Option, none, some}
 use lib.ListN.{getD}
+use Rattle.paper.specs.Meaning.{Sharing}
 use Rattle.paper.specs.Computed.{smallest}
 use Rattle.sets.specs.Sets.{mem}
 use Rattle.judge.specs.declared.suitable.First.{First}
-use Rattle.judge.specs.declared.suitable.First.the-variants.{At, Nothing as NoFirst}
-use Rattle.judge.specs.declared.suitable.Shared.{Shared}
-use Rattle.judge.specs.declared.suitable.Shared.the-variants.{Pair, Nothing}
+use Rattle.judge.specs.declared.suitable.First.the-variants.{At, Nothing}
 
 -- What was found, in the paper's words.
 unfoldable pub saidFirst : First → Option ℕ
 saidFirst (At q) = some q
-saidFirst NoFirst = none
-
--- The pair that was found, in the paper's words.
-unfoldable pub saidShared : Shared → Option (ℕ × ℕ)
-saidShared (Pair q p) = some (q, p)
-saidShared Nothing = none
+saidFirst Nothing = none
 
 -- The class q with what was found for it, or what comes after.
-unfoldable pub pairOr : ℕ → Option ℕ → Option (ℕ × ℕ) → Option (ℕ × ℕ)
-pairOr q (some p) later = some (q, p)
+unfoldable pub pairOr : ℕ → Option ℕ → Sharing → Sharing
+pairOr q (some p) later = Sharing.shared q p
 pairOr q none later = later
 
 -- The state of B that the class q is marked with, the smallest of those in `bad` below m; none where q is not in `finals`.
@@ -31,6 +25,6 @@ unfoldable pub partner : (pairs : List ℕ) → (finals bad m q : ℕ) → Optio
 partner pairs finals bad m q = elim (mem finals q) [ true ↦ smallest (λ p. mem (getD pairs q 0) p && mem bad p) 0 m | false ↦ none ]
 
 -- The first class, of the k from n on, that has a partner, and the partner.
-unfoldable pub sharedOf : (pairs : List ℕ) → (finals bad n k m : ℕ) → Option (ℕ × ℕ)
-sharedOf pairs finals bad n zero m = none
+unfoldable pub sharedOf : (pairs : List ℕ) → (finals bad n k m : ℕ) → Sharing
+sharedOf pairs finals bad n zero m = Sharing.nothing
 sharedOf pairs finals bad n (suc k) m = pairOr n (partner pairs finals bad m n) (sharedOf pairs finals bad (suc n) k m)

@@ -1,30 +1,44 @@
-// The judgement: sharing first, then the search.
+// The judgement: the two questions, and the verdict that is put together from them.
 pub mod merging;
 pub mod suitable;
 
 use merging::Rows;
 use merging::merged_rows;
 use search::search;
-use suitable::Shared;
 use suitable::shared_pair;
 use tables::Merging;
 use tables::Tables;
+use verdicts::Closure;
+use verdicts::Sharing;
 use verdicts::Verdict;
+use verdicts::where_suitable;
 use woven::weave;
 ghost use mathlib.Core.Path.{_≡_};
 ghost use Prim.Native.Nat.{_*_};
-ghost use Rattle.paper.specs.Computed.{cases, examine, verdict};
+ghost use Rattle.paper.specs.Meaning.{Asked};
+ghost use Rattle.paper.specs.Computed.{closure as closureOver, sharingIn, closureIn, verdict};
 ghost use Rattle.tables.specs.Held.{held, aritiesOf, rulesOf};
 ghost use Rattle.tables.specs.Sound.{Sound};
-ghost use Rattle.verdicts.specs.Said.{said};
+ghost use Rattle.verdicts.specs.Said.{said, saidSharing, Tells};
 ghost use Rattle.judge.specs.Merged.{Merged};
 ghost use Rattle.judge.specs.Judged.{mergedOf};
 
+// The rows of the merged automaton.
+fn merged_of(t: Tables, m: Merging) -> Rows
+    requires { ⌜ Sound t m ⌝ }
+    ensures { λ r. ⌜ Merged (t .initial .rows) (m .merge) (t .initial .count * 5) (r .bytes) ⌝ }
+{
+    let initial = t.initial;
+    let rows = initial.rows;
+    let merge = m.merge;
+    merged_rows(&rows, &merge, initial.count)
+}
+
 // The first critical pair of the merged automaton, whose rows are `merged`, within the budget.
-pub fn first_critical(t: Tables, m: Merging, merged: Rows) -> Verdict
+pub fn first_critical(t: Tables, m: Merging, merged: Rows) -> Closure
     requires { ⌜ Sound t m ⌝ }
     requires { ⌜ Merged (t .initial .rows) (m .merge) (t .initial .count * 5) (merged .bytes) ⌝ }
-    ensures { λ r. ⌜ said r ≡ examine (mergedOf t m) (cases (mergedOf t m .states) 0 (rulesOf (aritiesOf t) (t .rules))) (t .budget) 0 ⌝ }
+    ensures { λ r. ⌜ Tells (Asked.answered (closureOver (mergedOf t m) (rulesOf (aritiesOf t) (t .rules)) (t .budget))) r ⌝ }
 {
     let initial = t.initial;
     let rules = t.rules;
@@ -44,18 +58,35 @@ pub fn first_critical(t: Tables, m: Merging, merged: Rows) -> Verdict
     )
 }
 
-// The verdict on the tables and the merging: unsuitable where a final pair shares a tree, else what the search says.
+// The first question, of the tables and the merging: the first final pair that shares a tree.
+pub fn sharing(t: Tables, m: Merging) -> Sharing
+    requires { ⌜ Sound t m ⌝ }
+    ensures { λ r. ⌜ saidSharing r ≡ Asked.answered (sharingIn (held t m)) ⌝ }
+{
+    let merged = merged_of(t, m);
+    shared_pair(t, m, merged)
+}
+
+// The second: the first critical pair within the budget, whether a final pair shares a tree or not.
+pub fn closure(t: Tables, m: Merging) -> Closure
+    requires { ⌜ Sound t m ⌝ }
+    ensures { λ r. ⌜ Tells (Asked.answered (closureIn (held t m))) r ⌝ }
+{
+    let merged = merged_of(t, m);
+    first_critical(t, m, merged)
+}
+
+// The verdict, put together from the two: the second is asked only where the first finds nothing, and the table is merged once.
+// What was read is not refused, so the last arm is never taken; it is there because the type has it, and says what the paper says.
 pub fn judge(t: Tables, m: Merging) -> Verdict
     requires { ⌜ Sound t m ⌝ }
     ensures { λ r. ⌜ said r ≡ verdict (held t m) ⌝ }
 {
-    let initial = t.initial;
-    let rows = initial.rows;
-    let merge = m.merge;
-    let merged = merged_rows(&rows, &merge, initial.count);
+    let merged = merged_of(t, m);
     let shared = shared_pair(t, m, merged);
     match shared {
-        Shared::Pair { class, bad } => Verdict::Unsuitable { class, bad },
-        Shared::Nothing => first_critical(t, m, merged),
+        Sharing::Pair { class, bad } => Verdict::Unsuitable { class, bad },
+        Sharing::Nothing => where_suitable(first_critical(t, m, merged)),
+        Sharing::Refused { number, line } => Verdict::Malformed { number, line },
     }
 }

@@ -6,16 +6,19 @@ use sharing::Marked;
 use sharing::share;
 use tables::Merging;
 use tables::Tables;
+use verdicts::Sharing;
 ghost use mathlib.Core.Path.{_≡_};
 ghost use Prim.Native.Nat.{_*_, _≤_, _<_};
 ghost use lib.ListN.{length, take};
 ghost use Rattle.sets.specs.Sets.{mem};
-ghost use Rattle.paper.specs.Computed.{smallest, sharedPair};
+ghost use Rattle.paper.specs.Meaning.{Asked};
+ghost use Rattle.paper.specs.Computed.{smallest, sharing};
 ghost use Rattle.sharing.specs.Share.{Exact, Tables as Shareable};
 ghost use Rattle.tables.specs.Sound.{Sound};
+ghost use Rattle.verdicts.specs.Said.{saidSharing};
 ghost use Rattle.judge.specs.Merged.{Merged};
 ghost use Rattle.judge.specs.Judged.{mergedOf, badOf};
-ghost use Rattle.judge.specs.Pairs.{saidFirst, saidShared, sharedOf};
+ghost use Rattle.judge.specs.Pairs.{saidFirst, sharedOf};
 
 // The first number found, or nothing.
 pub enum First {
@@ -28,33 +31,27 @@ fn first_below(set: u64, n: usize) -> First
     requires { ⌜ n ≤ 64 ⌝ }
     ensures { λ r. ⌜ saidFirst r ≡ smallest (mem set) 0 n ⌝ }
 {
-    let mut q: usize = 0;
-    while q < n {
-        if has(set, q as u64) {
-            return First::At(q);
+    let mut p: usize = 0;
+    while p < n {
+        if has(set, p as u64) {
+            return First::At(p);
         }
-        q += 1;
+        p += 1;
     }
     First::Nothing
 }
 
-// The final pair that was found, or nothing.
-pub enum Shared {
-    Pair { class: u8, bad: u8 },
-    Nothing,
-}
-
 // The first pair of a class in `finals`, below k, and a state in `bad`, below m, that is marked.
-pub fn first_pair(pairs: &[u64; 64], finals: u64, bad: u64, k: usize, m: usize) -> Shared
+pub fn first_pair(pairs: &[u64; 64], finals: u64, bad: u64, k: usize, m: usize) -> Sharing
     requires { ⌜ (k ≤ 64) × (m ≤ 64) ⌝ }
-    ensures { λ r. ⌜ saidShared r ≡ sharedOf (now (pairs .entry)) finals bad 0 k m ⌝ }
+    ensures { λ r. ⌜ saidSharing r ≡ Asked.answered (sharedOf (now (pairs .entry)) finals bad 0 k m) ⌝ }
 {
     let mut q: usize = 0;
     while q < k {
         if has(finals, q as u64) {
             let found = first_below(pairs[q] & bad, m);
             if let First::At(p) = found {
-                return Shared::Pair {
+                return Sharing::Pair {
                     class: q as u8,
                     bad: p as u8,
                 };
@@ -62,7 +59,7 @@ pub fn first_pair(pairs: &[u64; 64], finals: u64, bad: u64, k: usize, m: usize) 
         }
         q += 1;
     }
-    Shared::Nothing
+    Sharing::Nothing
 }
 
 // The pairs of a class and a state of B that share a tree, from the first bytes of both tables.
@@ -82,10 +79,10 @@ fn mark<'a>(
 }
 
 // The first final pair of the merged automaton, whose rows are `merged`, and B that shares a tree.
-pub fn shared_pair(t: Tables, m: Merging, merged: Rows) -> Shared
+pub fn shared_pair(t: Tables, m: Merging, merged: Rows) -> Sharing
     requires { ⌜ Sound t m ⌝ }
     requires { ⌜ Merged (t .initial .rows) (m .merge) (t .initial .count * 5) (merged .bytes) ⌝ }
-    ensures { λ r. ⌜ saidShared r ≡ sharedPair (mergedOf t m) (badOf t) ⌝ }
+    ensures { λ r. ⌜ saidSharing r ≡ Asked.answered (sharing (mergedOf t m) (badOf t)) ⌝ }
 {
     let initial = t.initial;
     let bad = t.bad;

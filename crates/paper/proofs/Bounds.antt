@@ -18,7 +18,7 @@ use Rattle.paper.specs.Bytes.{bytes}
 use Rattle.paper.specs.Limits.{mostBudget, mostStates, lastState, mostDigits, leastBuffer, mostRules, lastVariable}
 use Rattle.paper.specs.Certificate.{Certificate}
 use Rattle.paper.specs.Format.{Refusal, too-long, on-line}
-use Rattle.paper.specs.Meaning.{malformed, unsuitable, critical, accepted, stopped, Verdict, total, Means, Given}
+use Rattle.paper.specs.Meaning.{malformed, unsuitable, critical, accepted, stopped, Verdict, Sharing, Closure, total, SharingMeans, ClosureMeans, Means, Given, SharingGiven, ClosureGiven}
 use Rattle.paper.specs.Computed.{verdict, verdictOn, verdictOf}
 use Rattle.paper.specs.WellFormed.{WellFormed}
 use Rattle.paper.specs.Answer.{decimals, decimalIf, dash, eight, answer, answerOf}
@@ -57,20 +57,33 @@ pub record CriticalRanged (i : ℕ) (xs : List ℕ) (q n : ℕ) : Type 0 where
   pub class : q < mostStates
   pub examined : n ≤ mostBudget
 
--- Each number is in its range.
+-- Each number of an answer to a question is in its range ..
+unfoldable pub SharingRanged : Sharing → Type 0
+SharingRanged (Sharing.shared class bad) = (class < mostStates) × (bad < mostStates)
+SharingRanged Sharing.nothing = Unit {0}
+
+unfoldable pub ClosureRanged : Closure → Type 0
+ClosureRanged (Closure.critical rule xs class examined) = CriticalRanged rule xs class examined
+ClosureRanged (Closure.closed examined) = examined ≤ mostBudget
+ClosureRanged (Closure.stopped examined) = examined ≤ mostBudget
+
+-- .. and of a verdict.
 unfoldable pub Ranged : Verdict → Type 0
 Ranged (malformed number line) = Refusal number line
-Ranged (unsuitable class bad) = (class < mostStates) × (bad < mostStates)
-Ranged (critical rule xs class examined) = CriticalRanged rule xs class examined
-Ranged (accepted examined) = examined ≤ mostBudget
-Ranged (stopped examined) = examined ≤ mostBudget
+Ranged (unsuitable class bad) = SharingRanged (Sharing.shared class bad)
+Ranged (critical rule xs class examined) = ClosureRanged (Closure.critical rule xs class examined)
+Ranged (accepted examined) = ClosureRanged (Closure.closed examined)
+Ranged (stopped examined) = ClosureRanged (Closure.stopped examined)
 
 module _ (c : Certificate) (w : WellFormed c) where
-  given-ranged : (v : Verdict) → Given c v → Ranged v
-  unfolding Given Means Ranged merged Substitutable
-  given-ranged (malformed number line) g = absurd g
-  given-ranged (unsuitable q p) (s, t) = (omega (arith, final-classes (c .merge) (c .A) q (t .itself .class), classes-bound c w), omega (arith, w .B .final p (t .itself .state), w .B .most-states))
-  given-ranged (critical rule xs q n) (s, f, l) =
+  pub sharing-ranged : (s : Sharing) → SharingGiven c s → SharingRanged s
+  unfolding SharingGiven SharingMeans SharingRanged merged
+  sharing-ranged (Sharing.shared q p) (s, t) = (omega (arith, final-classes (c .merge) (c .A) q (t .itself .class), classes-bound c w), omega (arith, w .B .final p (t .itself .state), w .B .most-states))
+  sharing-ranged Sharing.nothing n = tt
+
+  pub closure-ranged : (k : Closure) → ClosureGiven c k → ClosureRanged k
+  unfolding ClosureGiven ClosureMeans ClosureRanged merged Substitutable
+  closure-ranged (Closure.critical rule xs q n) (f, l) =
       let rule-in = nth-mem (c .rules) (f .pair .number) (f .pair .listed) in
       let few = classes-bound c w in
       record {
@@ -80,8 +93,16 @@ module _ (c : Certificate) (w : WellFormed c) where
         class = omega (arith, f .named, left-below (merged-in-range (c .merge) (c .A)) (f .pair .rule .left) (w .rules (f .pair .rule) rule-in .shaped .notBare) (f .pair .left));
         examined = omega (arith, w .budget);
       }
-  given-ranged (accepted n) (s, a, l, e) = omega (arith, w .budget)
-  given-ranged (stopped n) (s, q, l, e) = omega (arith, w .budget)
+  closure-ranged (Closure.closed n) (a, l, e) = omega (arith, w .budget)
+  closure-ranged (Closure.stopped n) (q, l, e) = omega (arith, w .budget)
+
+  given-ranged : (v : Verdict) → Given c v → Ranged v
+  unfolding Given Means SharingGiven ClosureGiven Ranged
+  given-ranged (malformed number line) g = absurd g
+  given-ranged (unsuitable q p) g = sharing-ranged (Sharing.shared q p) g
+  given-ranged (critical rule xs q n) (s, g) = closure-ranged (Closure.critical rule xs q n) g
+  given-ranged (accepted n) (s, g) = closure-ranged (Closure.closed n) g
+  given-ranged (stopped n) (s, g) = closure-ranged (Closure.stopped n) g
 
 -- Every number of a file's verdict is in its range.
 pub verdict-ranged : (file : List ℕ) → Ranged (verdictOf file)
@@ -108,9 +129,13 @@ Fits s l (accepted examined) = examined < 10 ^ suc l
 Fits s l (stopped examined) = examined < 10 ^ suc l
 
 -- The eight lines are as long as their keys and values.
-eight-length : (v : String) (a b c d e f g : List ℕ) → length (eight v a b c d e f g) ≡ length (bytes v) + length a + length b + length c + length d + length e + length f + length g + 55
+pub eight-length : (k v : String) (a b c d e f g : List ℕ) → length (eight k v a b c d e f g) ≡ length (bytes k) + length (bytes v) + length a + length b + length c + length d + length e + length f + length g + 48
 unfolding eight bytes
-eight-length v a b c d e f g = simp (length-append, line-length) (omega arith)
+eight-length k v a b c d e f g = simp (length-append, line-length) (omega arith)
+
+-- At most four classes of at most s + 1 digits, with their commas.
+pub four-classes : (s : ℕ) (xs : List ℕ) → length xs ≤ 4 → ((x : ℕ) → List·Memᴰ x xs → x < 10 ^ suc s) → length (decimals xs) ≤ suc (suc s) * 4 - 1
+four-classes s xs four h = omega (arith, decimals-length s xs h, mul-le-mul-left (suc (suc s)) four)
 
 -- The answer to critical is the longest: rule, four classes with their commas, class, and the examined count.
 pub answer-length : (s l : ℕ) (v : Verdict) → Fits s l v → length (answer v) ≤ 76 + 6 * s + l
@@ -119,14 +144,13 @@ answer-length s l (malformed number none) h = rw eight-length (omega (arith, dec
 answer-length s l (malformed number (some line)) (h, g) = rw eight-length (omega (arith, decimal-length s number h, decimal-length l line g))
 answer-length s l (unsuitable class bad) (h, g) = rw eight-length (omega (arith, decimal-length s class h, decimal-length s bad g, decimal-length 0 0 (omega arith)))
 answer-length s l (critical rule xs class n) h =
-    let classes : length (decimals xs) ≤ suc (suc s) * 4 - 1 = omega (arith, decimals-length s xs (h .classes), mul-le-mul-left (suc (suc s)) (h .four)) in
-    rw eight-length (omega (arith, decimal-length s rule (h .rule), classes, decimal-length s class (h .class), decimal-length l n (h .examined)))
+    rw eight-length (omega (arith, decimal-length s rule (h .rule), four-classes s xs (h .four) (h .classes), decimal-length s class (h .class), decimal-length l n (h .examined)))
 answer-length s l (accepted n) h = rw eight-length (omega (arith, decimal-length l n h))
 answer-length s l (stopped n) h = rw eight-length (omega (arith, decimal-length l n h))
 
 -- In a file's verdict a count or a line has as many digits as a number in a file may have, and any other number has two.
 ranged-fits : (v : Verdict) → Ranged v → Fits 1 (mostDigits - 1) v
-unfolding Ranged Fits
+unfolding Ranged SharingRanged ClosureRanged Fits
 ranged-fits (malformed number line) r = refusal r
   where
     refusal : {number : ℕ} {line : Option ℕ} → Refusal number line → Fits 1 (mostDigits - 1) (malformed number line)

@@ -7,7 +7,7 @@ use Rattle.paper.specs.Limits.{mostBudget}
 use Rattle.paper.specs.Fields.{fromDigits}
 use Rattle.paper.specs.Certificate.{Certificate, Budget, row}
 use Rattle.paper.specs.Format.{holds, readFile}
-use Rattle.paper.specs.Meaning.{malformed, unsuitable, critical, accepted, stopped, Verdict, Means, Given}
+use Rattle.paper.specs.Meaning.{malformed, unsuitable, critical, accepted, stopped, Verdict, SharingMeans, ClosureMeans, Means, Given}
 use Rattle.paper.specs.Computed.{verdictOf}
 use Rattle.paper.specs.WellFormed.{WellFormed}
 use Rattle.paper.specs.Answer.{decimal, lineWith}
@@ -29,11 +29,11 @@ reformed : (c : Certificate) (b : ℕ) → b ≤ mostBudget → WellFormed c →
 reformed c b l w = record { budget = l; some-arities = w .some-arities; most-arities = w .most-arities; arities = w .arities; A = w .A; B = w .B; most-rules = w .most-rules; rules = w .rules; merge-count = w .merge-count; merge = w .merge; merge-numbered = w .merge-numbered }
 
 means-more : (c : Certificate) (budget : ℕ) → c .budget ≤ budget → (v : Verdict) → Given c v → ((n : ℕ) → v ≡ stopped n → ⊥) → Given (rebudget c budget) v
-unfolding Given Means
+unfolding Given Means SharingMeans ClosureMeans
 means-more c budget l (malformed number line) m h = m
 means-more c budget l (unsuitable class bad) m h = m
-means-more c budget l (critical rule xs class n) (s, f, k) h = (s, f, omega arith)
-means-more c budget l (accepted n) (s, a, k, e) h = (s, a, omega arith, e)
+means-more c budget l (critical rule xs class n) (s, (f, k)) h = (s, (f, omega arith))
+means-more c budget l (accepted n) (s, (a, k, e)) h = (s, (a, omega arith, e))
 means-more c budget l (stopped n) m h = absurd (h n refl)
 
 -- One number has one decimal.

@@ -16,7 +16,7 @@ use Rattle.theory.proofs.Ranked.{FitsAll, reached-ground, merged-fits}
 use Rattle.paper.specs.Limits.{mostBudget}
 use Rattle.paper.specs.Certificate.{Certificate}
 use Rattle.paper.specs.Format.{File, unreadable, holds, readFile}
-use Rattle.paper.specs.Meaning.{malformed, unsuitable, critical, accepted, stopped, Verdict, examined, total, placeOf, place, Means, Given}
+use Rattle.paper.specs.Meaning.{malformed, unsuitable, critical, accepted, stopped, Verdict, examined, total, placeOf, place, SharingMeans, ClosureMeans, Means, Given}
 use Rattle.paper.specs.Computed.{verdictOn, verdictOf}
 use Rattle.paper.specs.WellFormed.{GoodAutomaton}
 use Rattle.paper.proofs.Exact.{verdict-exact, accepted-safe}
@@ -62,19 +62,19 @@ ground-B file c e t p d = reached-ground (c .arities) (c .B) (fits (c .arities) 
 
 -- So the tree that an unsuitable merging shares with B is one.
 pub shared-ground : (file : List ℕ) (c : Certificate) → readFile file ≡ holds c → (q p : ℕ) → verdictOf file ≡ unsuitable q p → (t : Tree) × Ground (c .arities) t × Reaches (merged (c .merge) (c .A)) t q × Reaches (c .B) t p
-unfolding Given Means Share
+unfolding Given Means SharingMeans Share
 shared-ground file c e q p v =
     let (least, pair) = given-exactly file c e (unsuitable q p) .0 v in
     let (t, d, f) = pair .itself .shared in
     (t, ground-B file c e t p f, d, f)
 
 means-within : (c : Certificate) (v : Verdict) → Given c v → examined v ≤ c .budget
-unfolding Given Means examined
+unfolding Given Means ClosureMeans examined
 means-within c (malformed number line) m = absurd m
 means-within c (unsuitable class bad) m = omega arith
-means-within c (critical rule xs class n) m = m .2
-means-within c (accepted n) m = omega (arith, m .2, m .3)
-means-within c (stopped n) m = omega (arith, m .3)
+means-within c (critical rule xs class n) m = m .1 .1
+means-within c (accepted n) m = omega (arith, m .1 .1, m .1 .2)
+means-within c (stopped n) m = omega (arith, m .1 .2)
 
 -- The examined count never exceeds the budget.
 pub within-budget : (file : List ℕ) (c : Certificate) → readFile file ≡ holds c → examined (verdictOf file) ≤ c .budget
@@ -82,14 +82,14 @@ within-budget file c e = means-within c (verdictOf file) (given-exactly file c e
 
 -- The row of the table for accepted, written out.
 pub accepted-exactly : (file : List ℕ) (c : Certificate) → readFile file ≡ holds c → (n : ℕ) → (verdictOf file ≡ accepted n) ↔ (Suitable (merged (c .merge) (c .A)) (c .B) × Acritical (merged (c .merge) (c .A)) (c .rules) × (total (classes (c .merge)) (c .rules) ≤ c .budget) × (n ≡ total (classes (c .merge)) (c .rules)))
-unfolding Given Means merged
-accepted-exactly file c e n = given-exactly file c e (accepted n)
+unfolding Given Means ClosureMeans merged
+accepted-exactly file c e n = (λ v. let (s, (a, l, m)) = given-exactly file c e (accepted n) .0 v in (s, a, l, m), λ (s, a, l, m). given-exactly file c e (accepted n) .1 (s, (a, l, m)))
 
 -- The count of a critical verdict: the earlier rules' powers of k, and the substitution's place in its rule, from 1.
 pub critical-count : (file : List ℕ) (c : Certificate) → readFile file ≡ holds c → (rule : ℕ) (xs : List ℕ) (class n : ℕ) → verdictOf file ≡ critical rule xs class n → n ≡ total (classes (c .merge)) (take rule (c .rules)) + suc (placeOf (classes (c .merge)) xs)
-unfolding Given Means merged place
+unfolding Given Means ClosureMeans merged place
 critical-count file c e rule xs class n v =
-    let (s, f, l) = given-exactly file c e (critical rule xs class n) .0 v in
+    let (s, (f, l)) = given-exactly file c e (critical rule xs class n) .0 v in
     f .count ∙ ap₂ (λ i σ. total (classes (c .merge)) (take i (c .rules)) + suc (placeOf (classes (c .merge)) σ)) (f .number) (f .classes)
 
 -- The total's largest value is 32 x 1,048,576 = 33,554,432, the largest budget.

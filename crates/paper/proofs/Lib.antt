@@ -15,6 +15,7 @@ pub mod Known
 pub mod Admitted
 pub mod Refused
 pub mod Demands
+pub mod Questions
 pub mod Numbers
 pub mod Spelling
 pub mod Lengths

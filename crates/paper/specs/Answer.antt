@@ -1,4 +1,4 @@
--- The answer: eight lines.
+-- The answer: eight lines. Those of the two questions have the same keys but for the first.
 use mathlib.Core.Bool.{true, false}
 use mathlib.Core.List.{List, [], _∷_, _++_}
 use mathlib.Core.Option.{Option, none, some}
@@ -6,7 +6,7 @@ use Prim.Native.Nat.{ℕ, zero, suc, _+_, _/_, _%_}
 use Prim.Native.String.{String}
 use lib.Dec.{ltb}
 use Rattle.paper.specs.Bytes.{bytes, LF, comma, digit0}
-use Rattle.paper.specs.Meaning.{malformed, unsuitable, critical, accepted, stopped, Verdict}
+use Rattle.paper.specs.Meaning.{malformed, unsuitable, critical, accepted, stopped, Verdict, Sharing, Closure, Asked}
 use Rattle.paper.specs.Computed.{verdictOf}
 
 -- A number's digits: its only one, or those of its tenth and then its last. The count k ends the recursion; where n ≤ k it cuts nothing off.
@@ -37,10 +37,10 @@ decimalIf (some n) = decimal n
 unfoldable pub lineWith : String → List ℕ → List ℕ
 lineWith key value = bytes key ++ (bytes "=" ++ (value ++ (LF ∷ [])))
 
--- The eight lines in their order.
-unfoldable pub eight : String → (refusal line rule x class bad examined : List ℕ) → List ℕ
-eight verdict refusal line rule x class bad examined =
-    lineWith "verdict" (bytes verdict)
+-- The eight lines in their order; the first names what was asked.
+unfoldable pub eight : (question word : String) → (refusal line rule x class bad examined : List ℕ) → List ℕ
+eight question word refusal line rule x class bad examined =
+    lineWith question (bytes word)
     ++ (lineWith "refusal" refusal
     ++ (lineWith "line" line
     ++ (lineWith "rule" rule
@@ -51,11 +51,24 @@ eight verdict refusal line rule x class bad examined =
 
 -- The answer to each verdict.
 unfoldable pub answer : Verdict → List ℕ
-answer (malformed number line) = eight "malformed" (decimal number) (decimalIf line) dash dash dash dash dash
-answer (unsuitable class bad) = eight "unsuitable" dash dash dash dash (decimal class) (decimal bad) (decimal 0)
-answer (critical rule xs class examined) = eight "critical" dash dash (decimal rule) (decimals xs) (decimal class) dash (decimal examined)
-answer (accepted examined) = eight "accepted" dash dash dash dash dash dash (decimal examined)
-answer (stopped examined) = eight "stopped" dash dash dash dash dash dash (decimal examined)
+answer (malformed number line) = eight "verdict" "malformed" (decimal number) (decimalIf line) dash dash dash dash dash
+answer (unsuitable class bad) = eight "verdict" "unsuitable" dash dash dash dash (decimal class) (decimal bad) (decimal 0)
+answer (critical rule xs class examined) = eight "verdict" "critical" dash dash (decimal rule) (decimals xs) (decimal class) dash (decimal examined)
+answer (accepted examined) = eight "verdict" "accepted" dash dash dash dash dash dash (decimal examined)
+answer (stopped examined) = eight "verdict" "stopped" dash dash dash dash dash dash (decimal examined)
+
+-- The answers to the two questions.
+unfoldable pub sharingAnswer : Asked Sharing → List ℕ
+sharingAnswer (Asked.refused number line) = eight "sharing" "malformed" (decimal number) (decimalIf line) dash dash dash dash dash
+sharingAnswer (Asked.answered (Sharing.shared class bad)) = eight "sharing" "shared" dash dash dash dash (decimal class) (decimal bad) dash
+sharingAnswer (Asked.answered Sharing.nothing) = eight "sharing" "none" dash dash dash dash dash dash dash
+
+unfoldable pub closureAnswer : Asked Closure → List ℕ
+closureAnswer (Asked.refused number line) = eight "closure" "malformed" (decimal number) (decimalIf line) dash dash dash dash dash
+closureAnswer (Asked.answered (Closure.critical rule xs class examined)) =
+    eight "closure" "critical" dash dash (decimal rule) (decimals xs) (decimal class) dash (decimal examined)
+closureAnswer (Asked.answered (Closure.closed examined)) = eight "closure" "closed" dash dash dash dash dash dash (decimal examined)
+closureAnswer (Asked.answered (Closure.stopped examined)) = eight "closure" "stopped" dash dash dash dash dash dash (decimal examined)
 
 -- The answer to a file.
 unfoldable pub answerOf : List ℕ → List ℕ

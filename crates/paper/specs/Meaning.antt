@@ -1,4 +1,4 @@
--- The five verdicts, and when each is given: document 01's table, in the words of document 002.
+-- The five verdicts and the answers to the two questions they are put together from, and when each is given: document 01's table, in the words of document 002.
 use mathlib.Core.Path.{_≡_}
 use mathlib.Core.Logic.{_⊎_}
 use mathlib.Core.List.{List, [], _∷_, List·Memᴰ}
@@ -17,6 +17,35 @@ pub data Verdict : Type 0 where
   critical : (rule : ℕ) → (xs : List ℕ) → (class examined : ℕ) → Verdict
   accepted : (examined : ℕ) → Verdict
   stopped : (examined : ℕ) → Verdict
+
+-- The first question, does a final pair share a tree: the first such pair, or nothing.
+pub data Sharing : Type 0 where
+  shared : (class bad : ℕ) → Sharing
+  nothing : Sharing
+
+-- The second, is there a critical pair within the budget: the first, or none at all, or none as far as the budget goes; each with its count.
+pub data Closure : Type 0 where
+  critical : (rule : ℕ) → (xs : List ℕ) → (class examined : ℕ) → Closure
+  closed : (examined : ℕ) → Closure
+  stopped : (examined : ℕ) → Closure
+
+-- A question asked of a file: the refusal with its line, or the answer.
+pub data Asked (Answer : Type 0) : Type 0 where
+  refused : (number : ℕ) → (line : Option ℕ) → Asked Answer
+  answered : Answer → Asked Answer
+
+-- The whole verdict, put together from the two.
+unfoldable pub whole : Sharing → Closure → Verdict
+whole (Sharing.shared class bad) k = unsuitable class bad
+whole Sharing.nothing (Closure.critical rule xs class n) = critical rule xs class n
+whole Sharing.nothing (Closure.closed n) = accepted n
+whole Sharing.nothing (Closure.stopped n) = stopped n
+
+-- The same of a file; both questions refuse the same files.
+unfoldable pub together : Asked Sharing → Asked Closure → Verdict
+together (Asked.refused number line) k = malformed number line
+together (Asked.answered s) (Asked.refused number line) = malformed number line
+together (Asked.answered s) (Asked.answered k) = whole s k
 
 -- The examined count of a verdict; a malformed file has none.
 unfoldable pub examined : Verdict → ℕ
@@ -70,15 +99,32 @@ pub record FirstCritical (M : Automaton) (R : List Rule) (rule : ℕ) (xs : List
   pub first : (other : CriticalPair M R) → (place M R pair < place M R other) ⊎ ((place M R pair ≡ place M R other) × (class ≤ other .q))
   pub count : examined ≡ place M R pair
 
--- What each verdict says of the merged automaton M, the bad automaton B, the rules and the budget.
+-- What each answer to the first question says of the merged automaton M and the bad automaton B ..
+unfoldable pub SharingMeans : Automaton → Automaton → Sharing → Type 0
+SharingMeans M B (Sharing.shared q p) = Smallest (InFinalPair M B) q × Smallest (FinalPair M B q) p
+SharingMeans M B Sharing.nothing = Suitable M B
+
+-- .. and each answer to the second of the merged automaton, the rules and the budget. Nothing is said of B.
+unfoldable pub ClosureMeans : Automaton → List Rule → ℕ → Closure → Type 0
+ClosureMeans M R budget (Closure.critical rule xs q n) = FirstCritical M R rule xs q n × (n ≤ budget)
+ClosureMeans M R budget (Closure.closed n) = Acritical M R × (total (M .states) R ≤ budget) × (n ≡ total (M .states) R)
+ClosureMeans M R budget (Closure.stopped n) = ((pair : CriticalPair M R) → budget < place M R pair) × (budget < total (M .states) R) × (n ≡ budget)
+
+-- What each verdict says of them: unsuitable says what the first question says, and all others that it finds nothing, and what the second says.
 unfoldable pub Means : Automaton → Automaton → List Rule → ℕ → Verdict → Type 0
 Means M B R budget (malformed number line) = ⊥
-Means M B R budget (unsuitable q p) = Smallest (InFinalPair M B) q × Smallest (FinalPair M B q) p
-Means M B R budget (critical rule xs q n) = Suitable M B × FirstCritical M R rule xs q n × (n ≤ budget)
-Means M B R budget (accepted n) = Suitable M B × Acritical M R × (total (M .states) R ≤ budget) × (n ≡ total (M .states) R)
-Means M B R budget (stopped n) =
-    Suitable M B × ((pair : CriticalPair M R) → budget < place M R pair) × (budget < total (M .states) R) × (n ≡ budget)
+Means M B R budget (unsuitable q p) = SharingMeans M B (Sharing.shared q p)
+Means M B R budget (critical rule xs q n) = Suitable M B × ClosureMeans M R budget (Closure.critical rule xs q n)
+Means M B R budget (accepted n) = Suitable M B × ClosureMeans M R budget (Closure.closed n)
+Means M B R budget (stopped n) = Suitable M B × ClosureMeans M R budget (Closure.stopped n)
 
--- The verdict is given exactly when this holds of the certificate.
+-- The verdict is given exactly when this holds of the certificate ..
 unfoldable pub Given : Certificate → Verdict → Type 0
 Given c v = Means (merged (c .merge) (c .A)) (c .B) (c .rules) (c .budget) v
+
+-- .. and so each answer to a question.
+unfoldable pub SharingGiven : Certificate → Sharing → Type 0
+SharingGiven c s = SharingMeans (merged (c .merge) (c .A)) (c .B) s
+
+unfoldable pub ClosureGiven : Certificate → Closure → Type 0
+ClosureGiven c k = ClosureMeans (merged (c .merge) (c .A)) (c .rules) (c .budget) k

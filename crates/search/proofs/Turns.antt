@@ -7,7 +7,7 @@ use native.Mathlib.Omega.{arith}
 use lib.ListN.{length, take}
 use lib.Seq.{take-all}
 use Rattle.theory.specs.Rewriting.{Rule}
-use Rattle.paper.specs.Meaning.{critical, accepted, stopped, total}
+use Rattle.paper.specs.Meaning.{Closure, total}
 use Rattle.paper.specs.Computed.{case}
 use Rattle.paper.proofs.Examined.{Outcome}
 use Rattle.sets.specs.Sets.{mem, less}
@@ -19,14 +19,14 @@ use Rattle.lanes.specs.Automaton.{automatonOf}
 use Rattle.search.specs.Searched.{Searchable}
 use Rattle.lanes.proofs.Numbers.{lane-low, power-low, rest-few, rest-all}
 use Rattle.search.proofs.Order.{ruleIn, total-next}
-use Rattle.search.proofs.Walk.{all, caseAt, Calm, Clear, clear-run, clear-more, Run, Level, level-run, level-end, calm-from, dead-calm, smallest-class, lane-at, out-accepted, out-stopped, out-critical, pass-stop}
+use Rattle.search.proofs.Walk.{all, caseAt, Calm, Clear, clear-run, clear-more, Run, Level, level-run, level-end, calm-from, dead-calm, smallest-class, lane-at, out-closed, out-stopped, out-critical, pass-stop}
 use Rattle.search.proofs.Steps.{M, R, rule-count, rule-listed, Ruled, Lanes}
 
 module _ (arities words heads : List ℕ) (rules : Rules) (k : ℕ) (ok : Searchable arities words heads rules k) where
   -- All rules are examined.
-  pub all-examined : (budget r n : ℕ) → r ≡ rules .count → n ≡ total k (take r (R arities words heads rules k)) → n ≤ budget → Clear (M arities words heads rules k) (R arities words heads rules k) n → Outcome (M arities words heads rules k) (all (M arities words heads rules k) (R arities words heads rules k)) budget 0 (accepted n)
+  pub all-examined : (budget r n : ℕ) → r ≡ rules .count → n ≡ total k (take r (R arities words heads rules k)) → n ≤ budget → Clear (M arities words heads rules k) (R arities words heads rules k) n → Outcome (M arities words heads rules k) (all (M arities words heads rules k) (R arities words heads rules k)) budget 0 (Closure.closed n)
   unfolding automatonOf
-  all-examined budget r n e is-n within clear = out-accepted (M arities words heads rules k) (R arities words heads rules k) budget n (is-n ∙ ap (total k) (take-all r (R arities words heads rules k) (omega (arith, rule-count arities words heads rules k)))) within clear
+  all-examined budget r n e is-n within clear = out-closed (M arities words heads rules k) (R arities words heads rules k) budget n (is-n ∙ ap (total k) (take-all r (R arities words heads rules k) (omega (arith, rule-count arities words heads rules k)))) within clear
 
   module _ (budget most r at v lanes many more m0 m1 m2 : ℕ) (t : Ruled arities words heads rules k budget most r at v lanes many more m0 m1 m2) where
     abbrev rule : Rule
@@ -72,12 +72,12 @@ module _ (arities words heads : List ℕ) (rules : Rules) (k : ℕ) (ok : Search
           room : (n ≡ most → ⊥) → n + 1 ≤ budget
           room left = omega (arith, l .within, t .is-most)
 
-      pub lane-stop : n ≡ most → Outcome (M arities words heads rules k) (all (M arities words heads rules k) (R arities words heads rules k)) budget 0 (stopped budget)
+      pub lane-stop : n ≡ most → Outcome (M arities words heads rules k) (all (M arities words heads rules k) (R arities words heads rules k)) budget 0 (Closure.stopped budget)
       lane-stop e =
           let spent : n ≡ budget = e ∙ t .is-most in
           out-stopped (M arities words heads rules k) (R arities words heads rules k) budget (omega (arith, listed-still)) (subst (Clear (M arities words heads rules k) (R arities words heads rules k)) spent (l .clear))
 
-      pub lane-found : (n ≡ most → ⊥) → (q : ℕ) → less (lane j ls) (lane j rs) q ≡ true → ((x : ℕ) → x < q → less (lane j ls) (lane j rs) x ≡ false) → Outcome (M arities words heads rules k) (all (M arities words heads rules k) (R arities words heads rules k)) budget 0 (critical r (chosen v x0 x1 x2 j) q (n + 1))
+      pub lane-found : (n ≡ most → ⊥) → (q : ℕ) → less (lane j ls) (lane j rs) q ≡ true → ((x : ℕ) → x < q → less (lane j ls) (lane j rs) x ≡ false) → Outcome (M arities words heads rules k) (all (M arities words heads rules k) (R arities words heads rules k)) budget 0 (Closure.critical r (chosen v x0 x1 x2 j) q (n + 1))
       lane-found left q is none =
           out-critical (M arities words heads rules k) (R arities words heads rules k) budget n r rule (chosen v x0 x1 x2 j) q listed-still (omega (arith, l .within, t .is-most)) (l .clear) here
           (smallest-class (M arities words heads rules k) (R arities words heads rules k) (ok .in-range) (ok .shaped) r rule (chosen v x0 x1 x2 j) q (sym (l .each j in-block q) ∙ is) (λ x h. sym (l .each j in-block x) ∙ none x h))
@@ -98,7 +98,7 @@ module _ (arities words heads : List ℕ) (rules : Rules) (k : ℕ) (ok : Search
       unfolding automatonOf
       block-clear e = subst (λ m. Clear (M arities words heads rules k) (R arities words heads rules k) (n + m)) (sym (t .lanes-are)) (clear-run (M arities words heads rules k) (R arities words heads rules k) n (k ^ rest v 3) (l .clear) (block-calm e))
 
-      pub block-stop : some ≡ false → most - n < lanes → Outcome (M arities words heads rules k) (all (M arities words heads rules k) (R arities words heads rules k)) budget 0 (stopped budget)
+      pub block-stop : some ≡ false → most - n < lanes → Outcome (M arities words heads rules k) (all (M arities words heads rules k) (R arities words heads rules k)) budget 0 (Closure.stopped budget)
       unfolding automatonOf
       block-stop e short = pass-stop (M arities words heads rules k) (R arities words heads rules k) r rule _ (rest v 3) n budget block-run (l .within) (l .clear) (block-calm e) (omega (arith, t .is-most, t .lanes-are))
 
@@ -113,7 +113,7 @@ module _ (arities words heads : List ℕ) (rules : Rules) (k : ℕ) (ok : Search
       unfolding automatonOf
       dead-clear = subst (λ m. Clear (M arities words heads rules k) (R arities words heads rules k) (n + m)) (sym is-size) (clear-run (M arities words heads rules k) (R arities words heads rules k) n (k ^ rest v (i + 1)) (l .clear) calm)
 
-      pub dead-stop : most - n < size → Outcome (M arities words heads rules k) (all (M arities words heads rules k) (R arities words heads rules k)) budget 0 (stopped budget)
+      pub dead-stop : most - n < size → Outcome (M arities words heads rules k) (all (M arities words heads rules k) (R arities words heads rules k)) budget 0 (Closure.stopped budget)
       unfolding automatonOf
       dead-stop short = pass-stop (M arities words heads rules k) (R arities words heads rules k) r rule _ (rest v (i + 1)) n budget (level-run (M arities words heads rules k) (R arities words heads rules k) v i r rule xs budget start y n l going) (l .within) (l .clear) calm (omega (arith, t .is-most))
 

@@ -15,8 +15,8 @@ use Rattle.theory.specs.Automaton.{Automaton, InRange}
 use Rattle.theory.specs.Critical.{entry}
 use Rattle.theory.specs.Value.{value, substitutions, isCritical}
 use Rattle.theory.proofs.Search.{substitutions-sound, left-below}
-use Rattle.paper.specs.Meaning.{critical, accepted, stopped, Verdict, total, Smallest}
-use Rattle.paper.specs.Computed.{Case, case, cases, examine}
+use Rattle.paper.specs.Meaning.{Closure, Asked, total, Smallest}
+use Rattle.paper.specs.Computed.{Case, case, cases, closure}
 use Rattle.paper.proofs.Listed.{CriticalFor, Quiet}
 use Rattle.paper.proofs.Cases.{length-cases, length-substitutions, critical-iff, class-some, class-none}
 use Rattle.paper.proofs.Examined.{Outcome, decides}
@@ -162,9 +162,10 @@ module _ (M : Automaton) (R : List Rule) where
         let low = left-below range (rule .left) (shaped rule listed .notBare) (k .left) in
         true≢false (sym (critical-iff M R (case r rule σ) q .1 k) ∙ none q low)
 
-    -- A verdict that meets the outcome is the one of the definition.
-    pub judged : (budget : ℕ) (v : Verdict) → Outcome M all budget 0 v → v ≡ examine M all budget 0
-    judged budget v o = sym (decides M all budget 0 (λ c m. record { some-class = class-some M R c; no-class = class-none M R range shaped c m }) v o)
+    -- An answer that meets the outcome is the one of the definition.
+    pub judged : (budget : ℕ) (k : Closure) → Outcome M all budget 0 k → Asked.answered k ≡ Asked.answered (closure M R budget)
+    unfolding closure
+    judged budget v o = ap Asked.answered (sym (decides M all budget 0 (λ c m. record { some-class = class-some M R c; no-class = class-none M R range shaped c m }) v o))
 
     entries-low : (τ : List ℕ) → 1 ≤ M .states → M .states ≤ 64 → ((c : ℕ) → List·Memᴰ c τ → c < M .states) → (a : ℕ) → getD τ a 0 < 64
     entries-low τ some most low a = elim (decLt a (length τ)) [
@@ -221,15 +222,15 @@ module _ (M : Automaton) (R : List Rule) where
       classes (suc (suc (suc (suc zero)))) h j l = ap (λ m. x0 ∷ x1 ∷ x2 ∷ m) (single j l)
       classes (suc (suc (suc (suc (suc v))))) h j l = absurd (omega arith)
 
-  pub out-accepted : (budget n : ℕ) → n ≡ total (M .states) R → n ≤ budget → Clear n → Outcome M all budget 0 (accepted n)
-  out-accepted budget n e h clear =
+  pub out-closed : (budget n : ℕ) → n ≡ total (M .states) R → n ≤ budget → Clear n → Outcome M all budget 0 (Closure.closed n)
+  out-closed budget n e h clear =
       let long : n ≡ length all = e ∙ sym (length-cases (M .states) 0 R) in
       (subst (Quiet M) (take-all n all (omega arith)) (quiet n clear), omega arith, omega arith)
 
-  pub out-stopped : (budget : ℕ) → budget < length all → Clear budget → Outcome M all budget 0 (stopped budget)
+  pub out-stopped : (budget : ℕ) → budget < length all → Clear budget → Outcome M all budget 0 (Closure.stopped budget)
   out-stopped budget h clear = (quiet budget clear, h, omega arith)
 
-  pub out-critical : (budget n r : ℕ) (rule : Rule) (σ : List ℕ) (q : ℕ) → n < length all → n + 1 ≤ budget → Clear n → caseAt n ≡ case r rule σ → Smallest (CriticalFor M (case r rule σ)) q → Outcome M all budget 0 (critical r σ q (n + 1))
+  pub out-critical : (budget n r : ℕ) (rule : Rule) (σ : List ℕ) (q : ℕ) → n < length all → n + 1 ≤ budget → Clear n → caseAt n ≡ case r rule σ → Smallest (CriticalFor M (case r rule σ)) q → Outcome M all budget 0 (Closure.critical r σ q (n + 1))
   out-critical budget n r rule σ q long h clear e least = (
     n + 1,
     record {
@@ -252,7 +253,7 @@ module _ (M : Automaton) (R : List Rule) where
 
   -- A run without critical pairs is passed over, or the budget ends within it.
   module _ (r : ℕ) (rule : Rule) (π : List ℕ) (w n budget : ℕ) (run : Run r rule π w n) (within : n ≤ budget) (clear : Clear n) (calm : (d : ℕ) → d < M .states ^ w → Calm (caseAt (n + d))) where
-    pub pass-stop : budget - n < M .states ^ w → Outcome M all budget 0 (stopped budget)
+    pub pass-stop : budget - n < M .states ^ w → Outcome M all budget 0 (Closure.stopped budget)
     pass-stop short =
         let e : n + (budget - n) ≡ budget = omega arith in
         out-stopped budget (omega (arith, run .inside)) (subst Clear e (clear-run n (budget - n) clear (λ d h. calm d (omega arith))))

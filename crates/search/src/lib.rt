@@ -1,4 +1,5 @@
-// The search for the first critical pair: all classes of a rule's last variable at once, prefixes under which the left side has no class passed over whole, and of the third of four variables only the suspected classes looked at one by one.
+// The search for the first critical pair: all classes of a rule's last variable at once, prefixes under which the left side has no class
+// passed over whole, and of the third of four variables only the suspected classes looked at one by one.
 use lanes::block::alive;
 use lanes::block::block;
 use lanes::block::critical;
@@ -9,16 +10,13 @@ use lanes::prefixes::power;
 use lanes::prefixes::tries;
 use sets::has;
 use tables::Rules;
-use verdicts::Verdict;
-ghost use mathlib.Core.Path.{_≡_};
+use verdicts::Closure;
 ghost use lib.ListN.{take};
-ghost use Rattle.paper.specs.Computed.{cases, examine};
-ghost use Rattle.tables.specs.Held.{rulesOf};
-ghost use Rattle.verdicts.specs.Said.{said};
-ghost use Rattle.lanes.specs.Automaton.{automatonOf};
-ghost use Rattle.search.specs.Searched.{Searchable};
+ghost use Rattle.paper.specs.Meaning.{Asked};
+ghost use Rattle.verdicts.specs.Said.{Tells};
+ghost use Rattle.search.specs.Searched.{Searchable, searched};
 
-// The verdict of the search: the first critical pair among the first `budget` substitutions, k classes being there.
+// The first critical pair among the first `budget` substitutions, k classes being there; closed where there is none at all.
 pub fn search<'a>(
     words: &'a [u64; 128],
     heads: &'a [u8; 65],
@@ -27,17 +25,17 @@ pub fn search<'a>(
     rules: Rules,
     k: u64,
     budget: u32,
-) -> Verdict
+) -> Closure
     requires { ⌜ Searchable (take symbols (now arities)) (now words) (now heads) rules k ⌝ }
-    ensures { λ r. ⌜ said r ≡ examine (automatonOf (take symbols (now (arities .entry))) (now (words .entry)) (now (heads .entry)) k) (cases k 0 (rulesOf (take symbols (now (arities .entry))) rules)) budget 0 ⌝ }
+    ensures { λ r. ⌜ Tells (Asked.answered (searched (take symbols (now (arities .entry))) (now (words .entry)) (now (heads .entry)) rules k budget)) r ⌝ }
 {
     let most = budget as u64;
     let count = rules.count;
     let mut examined: u64 = 0;
     let mut rule: usize = 0;
-    let verdict = 'search: loop {
+    let answer = 'search: loop {
         if rule == count {
-            break 'search Verdict::Accepted {
+            break 'search Closure::Closed {
                 examined: examined as u32,
             };
         }
@@ -113,14 +111,14 @@ pub fn search<'a>(
                                 let mut j: u64 = 0;
                                 'lanes: while j < lanes {
                                     if examined == most {
-                                        break 'search Verdict::Stopped { examined: budget };
+                                        break 'search Closure::Stopped { examined: budget };
                                     }
                                     examined += 1;
                                     let mut q: u64 = 0;
                                     'classes: while q < k {
                                         if critical(&l, &r, q, j) {
                                             let found = pair(rule, v, x0, x1, x2, j, q);
-                                            break 'search Verdict::Critical {
+                                            break 'search Closure::Critical {
                                                 pair: found,
                                                 examined: examined as u32,
                                             };
@@ -131,7 +129,7 @@ pub fn search<'a>(
                                 }
                             } else {
                                 if most - examined < lanes {
-                                    break 'search Verdict::Stopped { examined: budget };
+                                    break 'search Closure::Stopped { examined: budget };
                                 }
                                 examined += lanes;
                             }
@@ -139,7 +137,7 @@ pub fn search<'a>(
                         }
                     } else {
                         if most - examined < many {
-                            break 'search Verdict::Stopped { examined: budget };
+                            break 'search Closure::Stopped { examined: budget };
                         }
                         examined += many;
                     }
@@ -147,7 +145,7 @@ pub fn search<'a>(
                 }
             } else {
                 if most - examined < more {
-                    break 'search Verdict::Stopped { examined: budget };
+                    break 'search Closure::Stopped { examined: budget };
                 }
                 examined += more;
             }
@@ -155,5 +153,5 @@ pub fn search<'a>(
         }
         rule += 1;
     };
-    verdict
+    answer
 }

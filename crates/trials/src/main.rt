@@ -1,4 +1,5 @@
-// Reads certificates packed one behind the other, each after its length in two bytes, the higher first, and prints every answer.
+// Reads certificates packed one behind the other, each after its length in two bytes, the higher first, and prints for every one the answers to all
+// three: the whole verdict, the first question, the second.
 use libc::STDIN_FILENO;
 use libc::STDOUT_FILENO;
 ghost use mathlib.Core.Path.{_≡_};
@@ -14,6 +15,24 @@ fn length_of(high: u8, low: u8) -> usize
     (high as usize) * 256 + (low as usize)
 }
 
+// Prints the answer to the question that the letter names.
+fn print(letter: u8, file: &[u8]) -> bool {
+    let mut out = [0u8; 128];
+    let k = reply::ask(letter, file, &mut out);
+    io::write_all(STDOUT_FILENO, &out[..k])
+}
+
+// Prints the whole verdict, then the answers to the first and the second question.
+fn print_all(file: &[u8]) -> bool {
+    if !print(b'v', file) {
+        return false;
+    }
+    if !print(b's', file) {
+        return false;
+    }
+    print(b'c', file)
+}
+
 // Answers the next certificate; false where there is none, or where it is cut off.
 fn next(file: &mut [u8]) -> bool {
     let mut head = [0u8; 2];
@@ -27,9 +46,7 @@ fn next(file: &mut [u8]) -> bool {
     if io::read_full(STDIN_FILENO, &mut file[..n]) < n {
         return false;
     }
-    let mut out = [0u8; 128];
-    let k = reply::reply(&file[..n], &mut out);
-    io::write_all(STDOUT_FILENO, &out[..k])
+    print_all(&file[..n])
 }
 
 fn main() {

@@ -11,7 +11,7 @@ use Rattle.theory.specs.Value.{value, isCritical}
 use Rattle.theory.specs.Critical.{entry}
 use Rattle.theory.proofs.Grow.{Contained, gives-more}
 use Rattle.theory.proofs.Value.{value-exact}
-use Rattle.paper.specs.Meaning.{critical}
+use Rattle.paper.specs.Meaning.{Closure}
 use Rattle.paper.specs.Computed.{Case, smallest, criticalClass, examine}
 
 same-test : (a b : Bool) → (a ≡ true → b ≡ true) → (b ≡ true → a ≡ true) → a ≡ b
@@ -39,4 +39,4 @@ module _ (A B : Automaton) (there : Contained A B) (back : Contained B A) where
     unfolding examine
     examine-same [] b n = refl
     examine-same (c ∷ cs) zero n = refl
-    examine-same (c ∷ cs) (suc b) n = λ i. elim (class-same c i) [ some q ↦ critical (c .number) (c .σ) q (suc n) | none ↦ examine-same cs b (suc n) i ]
+    examine-same (c ∷ cs) (suc b) n = λ i. elim (class-same c i) [ some q ↦ Closure.critical (c .number) (c .σ) q (suc n) | none ↦ examine-same cs b (suc n) i ]

@@ -4,23 +4,27 @@ pub mod damage;
 pub mod document;
 pub mod faults;
 pub mod hidden;
+pub mod mixed;
 pub mod model;
 pub mod sizes;
 pub mod valid;
 
 use crate::answer;
 use crate::random::Random;
+use mixed::Ending;
 use std::collections::{BTreeMap, BTreeSet};
 use valid::Wish;
 
 /// The corpus: the paper's own list, every refusal on every kind of line, two
 /// faults at once, edges of sizes, damaged bytes, and sound certificates, some
-/// of them with one critical pair among very many substitutions.
+/// of them with one critical pair among very many substitutions, and some
+/// unsuitable with each answer about closure.
 pub fn corpus() -> Vec<Vec<u8>> {
     let mut random = Random::new(20_260_101);
     let mut files: Vec<Vec<u8>> = Vec::new();
     files.extend(document::proved().into_iter().map(|(_, file)| file));
     files.extend(document::run().into_iter().map(|(_, file)| file));
+    files.push(document::CLOSED_UNSAFE.as_bytes().to_vec());
 
     let (example, wider) = (document::example(), document::wider());
     for (model, most) in [(&example, 9), (&wider, 7)] {
@@ -65,6 +69,14 @@ pub fn corpus() -> Vec<Vec<u8>> {
     for number in 0..60 {
         files.push(hidden::hidden(&mut Random::numbered(7, number)).write());
     }
+    for number in 0..126 {
+        let wished = Ending::ALL[number as usize % 3];
+        files.push(mixed::unsuitable(&mut Random::numbered(8, number), wished).write());
+    }
+    for number in 0..15 {
+        files.push(hidden::hidden_unsuitable(&mut Random::numbered(12, number)).write());
+    }
+    files.extend(sizes::unsuitable_totals());
     without_repeats(files)
 }
 
@@ -94,7 +106,12 @@ pub fn packed(seed: u64, index: u64) -> Vec<u8> {
     let mut random = Random::numbered(seed, index);
     let wish = *random.pick(&Wish::ALL);
     match random.below(1000) {
-        0..=419 => valid::valid(&mut random, wish).write(),
+        0..=379 => valid::valid(&mut random, wish).write(),
+        380..=417 => {
+            let wished = *random.pick(&Ending::ALL);
+            mixed::unsuitable(&mut random, wished).write()
+        }
+        418..=419 => hidden::hidden_unsuitable(&mut random).write(),
         420..=429 => hidden::hidden(&mut random).write(),
         430..=449 => sizes::random_size(&mut random),
         450..=451 => {

@@ -1,7 +1,12 @@
 //! Packed streams: each certificate after its length in two bytes, the higher
-//! byte first. Answers stand one behind the other, eight lines each.
+//! byte first. Answers stand one behind the other: three to a certificate, of
+//! eight lines each.
 
 pub const LONGEST: usize = 65_535;
+
+/// The lines of one answer, and of the three to one certificate.
+pub const ANSWER_LINES: usize = 8;
+pub const LINES: usize = 3 * ANSWER_LINES;
 
 /// Appends one certificate; it must not be longer than 65,535 bytes.
 pub fn push(stream: &mut Vec<u8>, certificate: &[u8]) {
@@ -36,17 +41,17 @@ pub fn split(stream: &[u8]) -> Result<Vec<&[u8]>, String> {
     Ok(certificates)
 }
 
-/// Takes the next answer off: eight lines, or what there is.
-pub fn take_answer<'a>(answers: &mut &'a [u8]) -> &'a [u8] {
+/// Takes the answers to the next certificate off: 24 lines, or what there is.
+pub fn take_answers<'a>(answers: &mut &'a [u8]) -> &'a [u8] {
     let ends = answers
         .iter()
         .enumerate()
         .filter(|(_, &byte)| byte == b'\n');
     let end = ends
         .map(|(place, _)| place + 1)
-        .nth(7)
+        .nth(LINES - 1)
         .unwrap_or(answers.len());
-    let (answer, rest) = answers.split_at(end);
+    let (taken, rest) = answers.split_at(end);
     *answers = rest;
-    answer
+    taken
 }

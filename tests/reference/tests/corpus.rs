@@ -4,9 +4,9 @@
 use reference::generate::faults::{on_two_lines, singles, Expected};
 use reference::generate::model::Kind;
 use reference::generate::{corpus, document, packed, sizes};
-use reference::judging::{judge, Verdict};
+use reference::judging::{closure, judge, sharing, Closure, Sharing, Verdict};
 use reference::random::Random;
-use reference::reading::{read, Certificate};
+use reference::reading::{read, Certificate, LARGEST_BUDGET};
 use reference::search::swift;
 use reference::stream;
 use std::collections::{BTreeMap, BTreeSet};
@@ -81,6 +81,56 @@ fn the_corpus_has_every_refusal_and_verdict() {
     for verdict in ["accepted", "critical", "stopped", "unsuitable"] {
         assert!(verdicts[verdict] >= 50, "{verdict}");
     }
+}
+
+/// The pairs of answers that the whole verdict hides or needs, and those of them
+/// that are not decided at once.
+#[test]
+fn the_corpus_has_the_mixed_cases() {
+    let mut cases: BTreeMap<(&str, &str), u32> = BTreeMap::new();
+    let mut hard: BTreeMap<(&str, &str), u32> = BTreeMap::new();
+    let mut longest: BTreeMap<(&str, &str), u64> = BTreeMap::new();
+    let (mut late, mut behind) = (0, [0; 2]);
+    let mut examined = 0;
+    for file in corpus() {
+        let Ok(mut certificate) = read(&file) else {
+            continue;
+        };
+        let (sharing, closed) = (sharing(&certificate), closure(&certificate, swift));
+        let case = (sharing.name(), closed.name());
+        examined += closed.examined();
+        *cases.entry(case).or_default() += 1;
+        let most = longest.entry(case).or_default();
+        *most = closed.examined().max(*most);
+        if closed.examined() > 1 {
+            *hard.entry(case).or_default() += 1;
+        }
+        match (&sharing, &closed) {
+            (Sharing::Shared { .. }, Closure::Critical(critical)) => {
+                late += u32::from(critical.place > 50)
+            }
+            (Sharing::Shared { .. }, Closure::Stopped { .. }) => {
+                certificate.budget = LARGEST_BUDGET;
+                let found = matches!(closure(&certificate, swift), Closure::Critical(_));
+                behind[usize::from(found)] += 1;
+            }
+            _ => {}
+        }
+    }
+    println!("{cases:?} {hard:?} {longest:?} {late} {behind:?} {examined}");
+    for sharing in ["shared", "none"] {
+        for closure in ["critical", "closed", "stopped"] {
+            let case = (sharing, closure);
+            assert!(cases[&case] >= 40, "{case:?}: {}", cases[&case]);
+            assert!(hard[&case] >= 40, "{case:?}: {}", hard[&case]);
+            assert!(longest[&case] >= 20_000, "{case:?}: {}", longest[&case]);
+        }
+    }
+    // Late pairs, and budgets spent with and without a pair behind them.
+    assert!(late >= 20, "{late}");
+    assert!(behind.iter().all(|&count| count >= 20), "{behind:?}");
+    // The proved program takes 10 to 100 ns for each.
+    assert!(examined <= 60_000_000, "{examined}");
 }
 
 fn rounds_to_share(certificate: &Certificate, class: u8, bad: u8) -> u32 {
@@ -172,20 +222,24 @@ fn the_same_seed_gives_the_same_bytes() {
 }
 
 /// Known from one machine; the others must agree.
-const FIRST_SEED: u64 = 4_701_842_103_104_618_675;
+const FIRST_SEED: u64 = 12_432_466_019_863_992_792;
 
 #[test]
 fn random_ones_are_half_malformed_and_of_all_verdicts() {
     let count = 4000;
     let mut malformed = 0;
     let mut verdicts: BTreeMap<&str, u32> = BTreeMap::new();
+    let mut unsuitable: BTreeMap<&str, u32> = BTreeMap::new();
     for index in 0..count {
         match read(&packed(9, index)) {
             Err(_) => malformed += 1,
             Ok(certificate) => {
-                *verdicts
-                    .entry(judge(&certificate, swift).name())
-                    .or_default() += 1
+                let verdict = judge(&certificate, swift);
+                *verdicts.entry(verdict.name()).or_default() += 1;
+                if matches!(verdict, Verdict::Unsuitable { .. }) {
+                    let closure = closure(&certificate, swift);
+                    *unsuitable.entry(closure.name()).or_default() += 1;
+                }
             }
         }
     }
@@ -197,6 +251,11 @@ fn random_ones_are_half_malformed_and_of_all_verdicts() {
     assert!(
         verdicts.values().all(|&number| number >= 250),
         "{verdicts:?}"
+    );
+    assert_eq!(unsuitable.len(), 3);
+    assert!(
+        unsuitable.values().all(|&number| number >= 100),
+        "{unsuitable:?}"
     );
 }
 
@@ -210,13 +269,11 @@ fn streams_are_packed_and_split() {
     assert_eq!(stream::split(&bytes).unwrap(), files);
     assert!(stream::split(&bytes[..bytes.len() - 1]).is_err());
     assert!(stream::split(&[0]).is_err());
-    let mut answers = &b"1\n2\n3\n4\n5\n6\n7\n8\n9\n"[..];
-    assert_eq!(
-        stream::take_answer(&mut answers),
-        b"1\n2\n3\n4\n5\n6\n7\n8\n"
-    );
-    assert_eq!(stream::take_answer(&mut answers), b"9\n");
-    assert_eq!(stream::take_answer(&mut answers), b"");
+    let (text, whole) = (b"=\n".repeat(25), b"=\n".repeat(24));
+    let mut answers = &text[..];
+    assert_eq!(stream::take_answers(&mut answers), whole);
+    assert_eq!(stream::take_answers(&mut answers), b"=\n");
+    assert_eq!(stream::take_answers(&mut answers), b"");
 }
 
 #[test]

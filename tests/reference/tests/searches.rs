@@ -1,13 +1,16 @@
-//! Both searches, the budget, and the sharing of trees, on random certificates.
+//! Both searches, the budget, and the sharing of trees, on random certificates,
+//! for unsuitable mergings too.
 
-use reference::answering::judged;
+use reference::answering::{self, judged};
 use reference::automaton::{sharing, Table};
+use reference::generate::hidden::hidden_unsuitable;
+use reference::generate::mixed::{unsuitable, Ending};
 use reference::generate::valid::{valid, Wish};
-use reference::judging::{judge, total, Verdict};
+use reference::judging::{self, closure, judge, total, Closure, Sharing, Verdict};
 use reference::random::Random;
 use reference::reading::{read, Certificate, LARGEST_BUDGET};
 use reference::search::{plain, swift, Critical};
-use std::collections::BTreeSet;
+use std::collections::{BTreeMap, BTreeSet};
 
 fn certificates(seed: u64, count: usize) -> Vec<Certificate> {
     let mut random = Random::new(seed);
@@ -35,8 +38,50 @@ fn both_searches_agree() {
             critical += u32::from(one.is_some());
         }
         assert_eq!(judge(&certificate, plain), judge(&certificate, swift));
+        assert_eq!(closure(&certificate, plain), closure(&certificate, swift));
     }
     assert!(critical > 1000, "{critical}");
+}
+
+#[test]
+fn both_searches_agree_on_closure_where_the_merging_is_unsuitable() {
+    let mut random = Random::new(8);
+    let mut models = Vec::new();
+    for number in 0..600 {
+        models.push(unsuitable(&mut random, Ending::ALL[number % 3]));
+    }
+    models.extend((0..60).map(|_| hidden_unsuitable(&mut random)));
+    let mut met: BTreeMap<&str, u32> = BTreeMap::new();
+    for model in models.iter().filter(|model| model.total() < 300_000) {
+        let certificate = read(&model.write()).expect("sound");
+        let sharing = judging::sharing(&certificate);
+        assert!(matches!(sharing, Sharing::Shared { .. }));
+        let answer = closure(&certificate, plain);
+        assert_eq!(answer, closure(&certificate, swift), "{certificate:?}");
+        *met.entry(answer.name()).or_default() += 1;
+    }
+    assert_eq!(met.len(), 3);
+    assert!(met.values().all(|&count| count >= 150), "{met:?}");
+}
+
+/// The paper's table, from the place of the first pair there is, if any, and
+/// the total: whatever the merging shares.
+#[test]
+fn closure_is_by_the_first_pair_the_total_and_the_budget() {
+    let mut random = Random::new(9);
+    for mut certificate in certificates(8, 1500) {
+        let merged = Table::merged(&certificate);
+        let first = plain(&merged, &certificate.rules, u64::from(LARGEST_BUDGET));
+        let all = total(&certificate);
+        certificate.budget = random.below(all as usize + 2) as u32;
+        let budget = u64::from(certificate.budget);
+        let wanted = match first {
+            Some(critical) if critical.place <= budget => Closure::Critical(critical),
+            None if all <= budget => Closure::Closed { examined: all },
+            _ => Closure::Stopped { examined: budget },
+        };
+        assert_eq!(closure(&certificate, swift), wanted, "{certificate:?}");
+    }
 }
 
 #[test]
@@ -45,6 +90,9 @@ fn examined_never_exceeds_the_budget() {
         let verdict = judge(&certificate, swift);
         assert!(verdict.examined() <= u64::from(certificate.budget));
         assert!(verdict.examined() <= total(&certificate));
+        let closure = closure(&certificate, swift);
+        assert!(closure.examined() <= u64::from(certificate.budget));
+        assert!(closure.examined() <= total(&certificate));
     }
 }
 
@@ -54,11 +102,14 @@ fn a_larger_budget_changes_no_verdict_but_stopped() {
     for mut certificate in certificates(3, 1500) {
         certificate.budget = random.below(total(&certificate) as usize + 2) as u32;
         let before = judge(&certificate, swift);
+        let closed_before = closure(&certificate, swift);
         for more in [1, 2, 10, 1000] {
             certificate.budget = (certificate.budget + more).min(LARGEST_BUDGET);
-            let after = judge(&certificate, swift);
             if !matches!(before, Verdict::Stopped { .. }) {
-                assert_eq!(before, after);
+                assert_eq!(before, judge(&certificate, swift));
+            }
+            if !matches!(closed_before, Closure::Stopped { .. }) {
+                assert_eq!(closed_before, closure(&certificate, swift));
             }
         }
     }
@@ -66,13 +117,16 @@ fn a_larger_budget_changes_no_verdict_but_stopped() {
 
 #[test]
 fn answers_are_under_128_bytes() {
-    let largest = Verdict::Critical(Critical {
+    let largest = Critical {
         rule: 31,
         substitution: vec![31; 4],
         class: 31,
         place: u64::from(LARGEST_BUDGET),
-    });
-    assert!(judged(&largest).len() < 128);
+    };
+    assert!(judged(&Verdict::Critical(largest.clone())).len() < 128);
+    assert!(answering::closure(&Closure::Critical(largest)).len() < 128);
+    let largest = Sharing::Shared { class: 31, bad: 31 };
+    assert!(answering::sharing(&largest).len() < 128);
     for certificate in certificates(4, 500) {
         assert!(judged(&judge(&certificate, swift)).len() < 128);
     }
@@ -114,6 +168,23 @@ fn reached(merged: &Table, bad: &Table) -> Option<BTreeSet<(u64, u64)>> {
     }
 }
 
+/// The smallest final class, and with it the smallest final state of B, that
+/// stand together in what one ground term reaches.
+fn first_final_pair(reached: &BTreeSet<(u64, u64)>, merged: &Table, bad: &Table) -> Sharing {
+    let together = |class: u8, state: u8| {
+        let mut sets = reached.iter();
+        sets.any(|sets| sets.0 >> class & sets.1 >> state & 1 == 1)
+    };
+    for class in (0..32).filter(|class| merged.finals >> class & 1 == 1) {
+        for state in (0..32).filter(|state| bad.finals >> state & 1 == 1) {
+            if together(class, state) {
+                return Sharing::Shared { class, bad: state };
+            }
+        }
+    }
+    Sharing::NoneShared
+}
+
 #[test]
 fn sharing_is_by_one_ground_term() {
     let mut tried = 0;
@@ -132,6 +203,10 @@ fn sharing_is_by_one_ground_term() {
                 "{certificate:?}"
             );
         }
+        assert_eq!(
+            judging::sharing(&certificate),
+            first_final_pair(&reached, &merged, &bad)
+        );
     }
     assert!(tried > 600, "{tried}");
 }

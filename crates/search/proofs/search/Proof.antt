@@ -7,13 +7,13 @@ use mathlib.Core.List.{List, [], _∷_}
 use Prim.Native.Nat.{ℕ, _+_, _*_, _^_, _<_}
 use lib.ListN.{getD, take}
 use borrow.Author.Count.{below-more, below-none}
-use Rattle.paper.specs.Meaning.{critical, accepted, stopped, total}
+use Rattle.paper.specs.Meaning.{Closure, Asked as Question, total}
 use Rattle.verdicts.specs.declared.CriticalPair.{CriticalPair}
-use Rattle.verdicts.specs.Said.{classesOf, said}
+use Rattle.verdicts.specs.Said.{classesOf, saidClosure, Ended, EndedIn}
 use Rattle.lanes.specs.Prefixes.{choices, chosen, pairOf}
 use Rattle.lanes.specs.Automaton.{automatonOf}
 use Rattle.lanes.proofs.Numbers.{choices-low}
-use Rattle.lanes.proofs.Shown.{pair-classes}
+use Rattle.lanes.proofs.Shown.{pair-classes, pair-ended}
 use Rattle.search.proofs.Order.{ruleIn}
 use Rattle.search.proofs.Walk.{Clear, level-rule, level-start, level-run, level-next, level-end, judged}
 use Rattle.search.proofs.Steps.{M, R, rule-count, rule-variables, rule-spelled}
@@ -200,15 +200,15 @@ search-again c =
     )
 
 returns : At tie.Need-returns
-unfolding automatonOf said
+unfolding automatonOf saidClosure EndedIn
 returns c =
     let start = c .before .before in
     let a = start .args in
     let at = c .before .search in
-    judged (M (take (a .symbols) (a .arities .now)) (a .words .now) (a .heads .now) (a .t5) (a .k)) (R (take (a .symbols) (a .arities .now)) (a .words .now) (a .heads .now) (a .t5) (a .k)) (start .pre .in-range) (start .pre .shaped) (a .budget) (accepted (at .examined)) (all-examined (take (a .symbols) (a .arities .now)) (a .words .now) (a .heads .now) (a .t5) (a .k) (start .pre) (a .budget) (at .rule) (at .examined) (omega (arith, at .inv .1, c .if1 .taken)) (at .inv .3) (at .inv .4) (at .inv .5))
+    record { says = judged (M (take (a .symbols) (a .arities .now)) (a .words .now) (a .heads .now) (a .t5) (a .k)) (R (take (a .symbols) (a .arities .now)) (a .words .now) (a .heads .now) (a .t5) (a .k)) (start .pre .in-range) (start .pre .shaped) (a .budget) (Closure.closed (at .examined)) (all-examined (take (a .symbols) (a .arities .now)) (a .words .now) (a .heads .now) (a .t5) (a .k) (start .pre) (a .budget) (at .rule) (at .examined) (omega (arith, at .inv .1, c .if1 .taken)) (at .inv .3) (at .inv .4) (at .inv .5)); ended = tt }
 
 returns-2 : At tie.Need-returns-2
-unfolding automatonOf said
+unfolding automatonOf saidClosure EndedIn
 returns-2 c =
     let start = c .before .before .before .before .before .before .before .before .before .before .before .before .before .before .before .before .before .before .before .before .before .before .before .before .before .before .before .before .before .before .before .before .before .before .before .before .before .before .before .before in
     let a = start .args in
@@ -217,10 +217,10 @@ returns-2 c =
     let x1 = c .before .before .before .before .before .before .before .before .before .before .before .before .before .before .before .before .before .second .x1 in
     let x2 = c .before .before .before .before .before .before .before .before .before .before .third .x2 in
     let ln = c .before .before .lanes in
-    judged (M (take (a .symbols) (a .arities .now)) (a .words .now) (a .heads .now) (a .t5) (a .k)) (R (take (a .symbols) (a .arities .now)) (a .words .now) (a .heads .now) (a .t5) (a .k)) (start .pre .in-range) (start .pre .shaped) (a .budget) (stopped (a .budget)) (lane-stop (take (a .symbols) (a .arities .now)) (a .words .now) (a .heads .now) (a .t5) (a .k) (start .pre) (a .budget) _ rule _ (getD (a .t5 .variables) rule 0) _ _ _ _ _ _ (ln .inv .0) x0 x1 x2 _ _ _ (ln .j) (ln .examined) (ln .inv .1) (c .before .lanes-test .taken) (c .if5 .taken))
+    record { says = judged (M (take (a .symbols) (a .arities .now)) (a .words .now) (a .heads .now) (a .t5) (a .k)) (R (take (a .symbols) (a .arities .now)) (a .words .now) (a .heads .now) (a .t5) (a .k)) (start .pre .in-range) (start .pre .shaped) (a .budget) (Closure.stopped (a .budget)) (lane-stop (take (a .symbols) (a .arities .now)) (a .words .now) (a .heads .now) (a .t5) (a .k) (start .pre) (a .budget) _ rule _ (getD (a .t5 .variables) rule 0) _ _ _ _ _ _ (ln .inv .0) x0 x1 x2 _ _ _ (ln .j) (ln .examined) (ln .inv .1) (c .before .lanes-test .taken) (c .if5 .taken)); ended = tt }
 
 returns-3 : At tie.Need-returns-3
-unfolding automatonOf said pairOf
+unfolding automatonOf saidClosure EndedIn pairOf
 returns-3 c =
     let start = c .before .before .before .before .before .before .before .before .before .before .before .before .before .before .before .before .before .before .before .before .before .before .before .before .before .before .before .before .before .before .before .before .before .before .before .before .before .before .before .before .before .before .before .before .before .before .before in
     let a = start .args in
@@ -232,12 +232,13 @@ returns-3 c =
     let q = c .before .before .before .before .before .before .classes .q in
     let j = ln .j in
     let bit = lane-bit (take (a .symbols) (a .arities .now)) (a .words .now) (a .heads .now) (a .t5) (a .k) (start .pre) (a .budget) _ rule _ (getD (a .t5 .variables) rule 0) _ _ _ _ _ _ (ln .inv .0) x0 x1 x2 _ _ _ (ln .j) (ln .examined) (ln .inv .1) (c .before .before .before .before .before .before .before .before .lanes-test .taken) in
-    ap (λ (p : CriticalPair). critical (p .rule) (classesOf p) (p .class) (ln .examined + 1)) (c .pair .ensures)
-    ∙ ap (λ (xs : List ℕ). critical rule xs q (ln .examined + 1)) (pair-classes rule x0 x1 x2 j q (ln .inv .1 .low0) (ln .inv .1 .low1) (ln .inv .1 .low2) bit (getD (a .t5 .variables) rule 0))
-    ∙ judged (M (take (a .symbols) (a .arities .now)) (a .words .now) (a .heads .now) (a .t5) (a .k)) (R (take (a .symbols) (a .arities .now)) (a .words .now) (a .heads .now) (a .t5) (a .k)) (start .pre .in-range) (start .pre .shaped) (a .budget) (critical rule (chosen (getD (a .t5 .variables) rule 0) x0 x1 x2 j) q (ln .examined + 1)) (lane-found (take (a .symbols) (a .arities .now)) (a .words .now) (a .heads .now) (a .t5) (a .k) (start .pre) (a .budget) _ rule _ (getD (a .t5 .variables) rule 0) _ _ _ _ _ _ (ln .inv .0) x0 x1 x2 _ _ _ (ln .j) (ln .examined) (ln .inv .1) (c .before .before .before .before .before .before .before .before .lanes-test .taken) (c .before .before .before .before .before .before .before .if5 .left) q (sym (c .before .before .critical .ensures) ∙ c .before .if6 .taken) (c .before .before .before .before .before .before .classes .inv .1))
+    let says = ap (λ (p : CriticalPair). Question.answered (Closure.critical (p .rule) (classesOf p) (p .class) (ln .examined + 1))) (c .pair .ensures)
+    ∙ ap (λ (xs : List ℕ). Question.answered (Closure.critical rule xs q (ln .examined + 1))) (pair-classes rule x0 x1 x2 j q (ln .inv .1 .low0) (ln .inv .1 .low1) (ln .inv .1 .low2) bit (getD (a .t5 .variables) rule 0))
+    ∙ judged (M (take (a .symbols) (a .arities .now)) (a .words .now) (a .heads .now) (a .t5) (a .k)) (R (take (a .symbols) (a .arities .now)) (a .words .now) (a .heads .now) (a .t5) (a .k)) (start .pre .in-range) (start .pre .shaped) (a .budget) (Closure.critical rule (chosen (getD (a .t5 .variables) rule 0) x0 x1 x2 j) q (ln .examined + 1)) (lane-found (take (a .symbols) (a .arities .now)) (a .words .now) (a .heads .now) (a .t5) (a .k) (start .pre) (a .budget) _ rule _ (getD (a .t5 .variables) rule 0) _ _ _ _ _ _ (ln .inv .0) x0 x1 x2 _ _ _ (ln .j) (ln .examined) (ln .inv .1) (c .before .before .before .before .before .before .before .before .lanes-test .taken) (c .before .before .before .before .before .before .before .if5 .left) q (sym (c .before .before .critical .ensures) ∙ c .before .if6 .taken) (c .before .before .before .before .before .before .classes .inv .1)) in
+    record { says = says; ended = subst Ended (sym (c .pair .ensures)) (pair-ended rule x0 x1 x2 j q (ln .inv .1 .low0) (ln .inv .1 .low1) (ln .inv .1 .low2) bit (getD (a .t5 .variables) rule 0)) }
 
 returns-4 : At tie.Need-returns-4
-unfolding automatonOf said
+unfolding automatonOf saidClosure EndedIn
 returns-4 c =
     let start = c .before .before .before .before .before .before .before .before .before .before .before .before .before .before .before .before .before .before .before .before .before .before .before .before .before .before .before .before .before .before .before .before .before .before .before .before .before .before in
     let a = start .args in
@@ -245,26 +246,26 @@ returns-4 c =
     let x0 = c .before .before .before .before .before .before .before .before .before .before .before .before .before .before .before .before .before .before .before .before .before .before .first .x0 in
     let x1 = c .before .before .before .before .before .before .before .before .before .before .before .before .before .before .before .second .x1 in
     let at = c .before .before .before .before .before .before .before .before .third in
-    judged (M (take (a .symbols) (a .arities .now)) (a .words .now) (a .heads .now) (a .t5) (a .k)) (R (take (a .symbols) (a .arities .now)) (a .words .now) (a .heads .now) (a .t5) (a .k)) (start .pre .in-range) (start .pre .shaped) (a .budget) (stopped (a .budget)) (block-stop (take (a .symbols) (a .arities .now)) (a .words .now) (a .heads .now) (a .t5) (a .k) (start .pre) (a .budget) _ rule _ (getD (a .t5 .variables) rule 0) _ _ _ _ _ _ (at .inv .0) x0 x1 (at .x2) _ _ _ 0 (at .examined) _ (at .inv .1) (c .before .before .before .before .before .before .before .third-test .taken) (c .before .before .block .ensures (a .k) (ruleIn (R (take (a .symbols) (a .arities .now)) (a .words .now) (a .heads .now) (a .t5) (a .k)) rule) (start .pre .most-classes) (omega (arith, c .before .before .before .before .before .before .before .third-test .taken, c .before .before .before .before .before .before .before .before .third .inv .0 .m2-is, choices-low (a .k) (getD (a .t5 .variables) rule 0) 2 (start .pre .some-class))) (rule-spelled (take (a .symbols) (a .arities .now)) (a .words .now) (a .heads .now) (a .t5) (a .k) (start .pre) rule (c .before .before .before .before .before .before .before .before .third .inv .0 .listed) (rule * 48) (c .before .before .before .before .before .before .before .before .third .inv .0 .is-at)) (at .inv .2)) (c .before .if4 .left) (c .if7 .taken))
+    record { says = judged (M (take (a .symbols) (a .arities .now)) (a .words .now) (a .heads .now) (a .t5) (a .k)) (R (take (a .symbols) (a .arities .now)) (a .words .now) (a .heads .now) (a .t5) (a .k)) (start .pre .in-range) (start .pre .shaped) (a .budget) (Closure.stopped (a .budget)) (block-stop (take (a .symbols) (a .arities .now)) (a .words .now) (a .heads .now) (a .t5) (a .k) (start .pre) (a .budget) _ rule _ (getD (a .t5 .variables) rule 0) _ _ _ _ _ _ (at .inv .0) x0 x1 (at .x2) _ _ _ 0 (at .examined) _ (at .inv .1) (c .before .before .before .before .before .before .before .third-test .taken) (c .before .before .block .ensures (a .k) (ruleIn (R (take (a .symbols) (a .arities .now)) (a .words .now) (a .heads .now) (a .t5) (a .k)) rule) (start .pre .most-classes) (omega (arith, c .before .before .before .before .before .before .before .third-test .taken, c .before .before .before .before .before .before .before .before .third .inv .0 .m2-is, choices-low (a .k) (getD (a .t5 .variables) rule 0) 2 (start .pre .some-class))) (rule-spelled (take (a .symbols) (a .arities .now)) (a .words .now) (a .heads .now) (a .t5) (a .k) (start .pre) rule (c .before .before .before .before .before .before .before .before .third .inv .0 .listed) (rule * 48) (c .before .before .before .before .before .before .before .before .third .inv .0 .is-at)) (at .inv .2)) (c .before .if4 .left) (c .if7 .taken)); ended = tt }
 
 returns-5 : At tie.Need-returns-5
-unfolding automatonOf said
+unfolding automatonOf saidClosure EndedIn
 returns-5 c =
     let start = c .before .before .before .before .before .before .before .before .before .before .before .before .before .before .before .before .before .before .before .before .before .before .before .before .before .before .before in
     let a = start .args in
     let rule = c .before .before .before .before .before .before .before .before .before .before .before .before .before .before .before .before .before .before .before .before .before .before .before .before .before .before .search .rule in
     let x0 = c .before .before .before .before .before .before .before .before .before .before .before .first .x0 in
     let at = c .before .before .before .before .second in
-    judged (M (take (a .symbols) (a .arities .now)) (a .words .now) (a .heads .now) (a .t5) (a .k)) (R (take (a .symbols) (a .arities .now)) (a .words .now) (a .heads .now) (a .t5) (a .k)) (start .pre .in-range) (start .pre .shaped) (a .budget) (stopped (a .budget)) (dead-stop (take (a .symbols) (a .arities .now)) (a .words .now) (a .heads .now) (a .t5) (a .k) (start .pre) (a .budget) _ rule _ (getD (a .t5 .variables) rule 0) _ _ _ _ _ _ (at .inv .0) 1 (x0 ∷ []) _ (at .x1) (at .examined) _ (at .inv .1) (omega (arith, c .before .before .before .second-test .taken, at .inv .0 .m1-is)) (at .inv .0 .many-are) x0 0 _ (at .inv .2) refl (sym (c .before .before .has2 .ensures) ∙ c .before .if3 .left) (c .if8 .taken))
+    record { says = judged (M (take (a .symbols) (a .arities .now)) (a .words .now) (a .heads .now) (a .t5) (a .k)) (R (take (a .symbols) (a .arities .now)) (a .words .now) (a .heads .now) (a .t5) (a .k)) (start .pre .in-range) (start .pre .shaped) (a .budget) (Closure.stopped (a .budget)) (dead-stop (take (a .symbols) (a .arities .now)) (a .words .now) (a .heads .now) (a .t5) (a .k) (start .pre) (a .budget) _ rule _ (getD (a .t5 .variables) rule 0) _ _ _ _ _ _ (at .inv .0) 1 (x0 ∷ []) _ (at .x1) (at .examined) _ (at .inv .1) (omega (arith, c .before .before .before .second-test .taken, at .inv .0 .m1-is)) (at .inv .0 .many-are) x0 0 _ (at .inv .2) refl (sym (c .before .before .has2 .ensures) ∙ c .before .if3 .left) (c .if8 .taken)); ended = tt }
 
 returns-6 : At tie.Need-returns-6
-unfolding automatonOf said
+unfolding automatonOf saidClosure EndedIn
 returns-6 c =
     let start = c .before .before .before .before .before .before .before .before .before .before .before .before .before .before .before .before .before .before .before .before in
     let a = start .args in
     let rule = c .before .before .before .before .before .before .before .before .before .before .before .before .before .before .before .before .before .before .before .search .rule in
     let at = c .before .before .before .before .first in
-    judged (M (take (a .symbols) (a .arities .now)) (a .words .now) (a .heads .now) (a .t5) (a .k)) (R (take (a .symbols) (a .arities .now)) (a .words .now) (a .heads .now) (a .t5) (a .k)) (start .pre .in-range) (start .pre .shaped) (a .budget) (stopped (a .budget)) (dead-stop (take (a .symbols) (a .arities .now)) (a .words .now) (a .heads .now) (a .t5) (a .k) (start .pre) (a .budget) _ rule _ (getD (a .t5 .variables) rule 0) _ _ _ _ _ _ (at .inv .0) 0 [] _ (at .x0) (at .examined) _ (at .inv .1) (omega (arith, c .before .before .before .first-test .taken, at .inv .0 .m0-is)) (at .inv .0 .more-are) 0 0 _ (at .inv .2) refl (sym (c .before .before .has .ensures) ∙ c .before .if2 .left) (c .if9 .taken))
+    record { says = judged (M (take (a .symbols) (a .arities .now)) (a .words .now) (a .heads .now) (a .t5) (a .k)) (R (take (a .symbols) (a .arities .now)) (a .words .now) (a .heads .now) (a .t5) (a .k)) (start .pre .in-range) (start .pre .shaped) (a .budget) (Closure.stopped (a .budget)) (dead-stop (take (a .symbols) (a .arities .now)) (a .words .now) (a .heads .now) (a .t5) (a .k) (start .pre) (a .budget) _ rule _ (getD (a .t5 .variables) rule 0) _ _ _ _ _ _ (at .inv .0) 0 [] _ (at .x0) (at .examined) _ (at .inv .1) (omega (arith, c .before .before .before .first-test .taken, at .inv .0 .m0-is)) (at .inv .0 .more-are) 0 0 _ (at .inv .2) refl (sym (c .before .before .has .ensures) ∙ c .before .if2 .left) (c .if9 .taken)); ended = tt }
 
 pub search-spec : {M : Type 1} → statement M
 search-spec =

@@ -41,26 +41,14 @@ same-length c = search needs
 returns-3 : tie.Need-returns-3
 returns-3 c = search needs
 
-slice-reshare-prefix-reply : tie.Need-slice-reshare-prefix-reply
-slice-reshare-prefix-reply c = search needs
+slice-reshare-prefix-print-all : tie.Need-slice-reshare-prefix-print-all
+slice-reshare-prefix-print-all c = search needs
 
-slice-aggregate-reply : tie.Need-slice-aggregate-reply
-slice-aggregate-reply c = sym (length-take-le _ _ (slice-reshare-prefix-reply (c .before)))
+slice-aggregate-print-all : tie.Need-slice-aggregate-print-all
+slice-aggregate-print-all c = sym (length-take-le _ _ (slice-reshare-prefix-print-all (c .before)))
 
-slice-aggregate-reply-2 : tie.Need-slice-aggregate-reply-2
-slice-aggregate-reply-2 c = search needs
-
-reply-requires : tie.Need-reply-requires
-reply-requires c κs = search needs
-
-array-share-prefix-out : tie.Need-array-share-prefix-out
-array-share-prefix-out c = search needs
-
-slice-aggregate-write-all : tie.Need-slice-aggregate-write-all
-slice-aggregate-write-all c = search needs
-
-write-all-requires : tie.Need-write-all-requires
-write-all-requires c κs = search needs
+print-all-requires : tie.Need-print-all-requires
+print-all-requires c κs = search needs
 
 same-length-2 : tie.Need-same-length-2
 same-length-2 c = search needs
@@ -84,12 +72,8 @@ next-spec =
     read-full-requires-2
     same-length
     returns-3
-    slice-reshare-prefix-reply
-    slice-aggregate-reply
-    slice-aggregate-reply-2
-    reply-requires
-    array-share-prefix-out
-    slice-aggregate-write-all
-    write-all-requires
+    slice-reshare-prefix-print-all
+    slice-aggregate-print-all
+    print-all-requires
     same-length-2
     returns-4)

@@ -1,5 +1,5 @@
 //! The paper's own certificates: its example file, K1 to K12, and the list to
-//! be run.
+//! be run; and the closed, unsafe one of `examples/`.
 
 use super::model::{Model, Side, Tree};
 
@@ -24,6 +24,26 @@ rules=1
 l=2,x0
 r=2,1,1,x0
 merge=0,1,2,0
+";
+
+/// An unsafe system whose merging is closed all the same: A accepts the tree 0
+/// alone, one step leads to 1(0), and B accepts that.
+pub const CLOSED_UNSAFE: &str = "budget=1
+arities=0,1
+states=2
+final=0
+trans=2
+t=0,0
+t=1,0,1
+badstates=2
+badfinal=1
+badtrans=2
+u=0,0
+u=1,0,1
+rules=1
+l=0
+r=1,0
+merge=0,0
 ";
 
 /// The example with pieces of text replaced.

@@ -47,6 +47,14 @@ pub fn hidden(random: &mut Random) -> Model {
     model
 }
 
+/// The same where the merging is unsuitable: the constant reaches class 0 and B's only state, and both are final.
+pub fn hidden_unsuitable(random: &mut Random) -> Model {
+    let mut model = hidden(random);
+    model.a.finals = vec![0];
+    model.b = Side { states: 1, finals: vec![0], rows: vec![vec![0, 0]] };
+    model
+}
+
 /// Sometimes under `SAME` once or twice.
 fn wrapped(random: &mut Random, tree: Tree) -> Tree {
     (0..random.below(3)).fold(tree, |tree, _| Tree::Symbol(SAME, vec![tree]))
@@ -97,7 +105,7 @@ fn budget(random: &mut Random, place: u64, total: u64) -> u64 {
 #[cfg(test)]
 mod tests {
     use super::*;
-    use crate::judging::{judge, Verdict};
+    use crate::judging::{closure, judge, sharing, Closure, Sharing, Verdict};
     use crate::reading::read;
     use crate::search::{plain, swift};
 
@@ -124,5 +132,21 @@ mod tests {
             }
         }
         assert!(found > 20 && stopped > 5, "{found} {stopped}");
+    }
+
+    /// The answer about closure is the suitable certificate's own, and the whole verdict hides it.
+    #[test]
+    fn the_same_pair_where_the_merging_is_unsuitable() {
+        let read_model = |model: Model| read(&model.write()).expect("a sound certificate");
+        for number in 0..60 {
+            let suitable = read_model(hidden(&mut Random::numbered(11, number)));
+            let unsuitable = read_model(hidden_unsuitable(&mut Random::numbered(11, number)));
+            assert_eq!(sharing(&suitable), Sharing::NoneShared);
+            assert_eq!(sharing(&unsuitable), Sharing::Shared { class: 0, bad: 0 });
+            let answer = closure(&unsuitable, swift);
+            assert_eq!(answer, closure(&suitable, swift), "{number}");
+            assert!(!matches!(answer, Closure::Closed { .. }), "{number}");
+            assert_eq!(judge(&unsuitable, swift), Verdict::Unsuitable { class: 0, bad: 0 });
+        }
     }
 }

@@ -291,6 +291,24 @@ fn large_totals() -> Vec<Vec<u8>> {
     files
 }
 
+/// Two variables over 32 classes, 32 rules, where the merging is unsuitable:
+/// stopped by one substitution, closed, and critical in the last rule.
+pub fn unsuitable_totals() -> Vec<Vec<u8>> {
+    let mut model = largest_total();
+    model.a.finals = vec![0];
+    model.a.rows.push(vec![0, 0]);
+    let pair = Tree::Symbol(1, vec![x(0), x(1)]);
+    model.rules = vec![(pair.clone(), pair); 32];
+    let mut files = Vec::new();
+    for budget in [32_767, 32_768] {
+        model.budget = budget;
+        files.push(model.write());
+    }
+    model.rules[31].1 = Tree::Symbol(1, vec![x(1), x(0)]);
+    files.push(model.write());
+    files
+}
+
 /// Files of exactly so many bytes, around 16,384.
 fn lengths() -> Vec<Vec<u8>> {
     let mut files = Vec::new();

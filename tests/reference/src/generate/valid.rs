@@ -2,7 +2,7 @@
 
 use super::model::{Model, Side, Tree};
 use crate::automaton::{sharing, Table};
-use crate::judging::{judge, Verdict};
+use crate::judging::{closure, judge, Closure, Verdict};
 use crate::random::Random;
 use crate::reading::{read, Certificate, LARGEST_BUDGET};
 use crate::search::swift;
@@ -26,7 +26,7 @@ impl Wish {
 
 /// How large a certificate is to be.
 #[derive(Clone, Copy, Debug)]
-struct Scale {
+pub(super) struct Scale {
     symbols: u32,
     states: u32,
     rows: u32,
@@ -35,14 +35,14 @@ struct Scale {
     substitutions: u64,
 }
 
-const SMALL: Scale = Scale {
+pub(super) const SMALL: Scale = Scale {
     symbols: 5,
     states: 5,
     rows: 9,
     rules: 3,
     substitutions: 300,
 };
-const MIDDLE: Scale = Scale {
+pub(super) const MIDDLE: Scale = Scale {
     symbols: 8,
     states: 9,
     rows: 20,
@@ -123,7 +123,7 @@ fn fits(verdict: &Verdict, wish: Wish) -> bool {
     )
 }
 
-fn certificate(model: &Model) -> Certificate {
+pub(super) fn certificate(model: &Model) -> Certificate {
     read(&model.write()).expect("a sound certificate")
 }
 
@@ -131,17 +131,16 @@ fn verdict(model: &Model) -> Verdict {
     judge(&certificate(model), swift)
 }
 
-/// The verdict when nothing is final and the budget is the largest.
-fn search_only(model: &Model) -> Verdict {
+/// The answer about closure when the budget is the largest.
+pub(super) fn search_only(model: &Model) -> Closure {
     let mut certificate = certificate(model);
-    certificate.a.finals.clear();
     certificate.budget = LARGEST_BUDGET;
-    judge(&certificate, swift)
+    closure(&certificate, swift)
 }
 
 // ---- systems ----
 
-fn system(random: &mut Random, scale: Scale) -> Model {
+pub(super) fn system(random: &mut Random, scale: Scale) -> Model {
     let arities = arities(random, scale.symbols);
     let states = count(random, 1, scale.states, 32);
     let bad_states = count(random, 1, scale.states, 32);
@@ -585,7 +584,7 @@ fn make_suitable(random: &mut Random, model: &mut Model) {
 }
 
 /// Marks a pair that shares a tree.
-fn make_unsuitable(random: &mut Random, model: &mut Model) {
+pub(super) fn make_unsuitable(random: &mut Random, model: &mut Model) {
     if random.chance(35) {
         // Perhaps the pair of a tree on states of its own is the only one.
         model.a.finals.clear();
@@ -642,9 +641,9 @@ fn any_budget(random: &mut Random, total: u64) -> u64 {
 
 /// Adds transitions until no rule has a critical pair; where that does not
 /// help, the rule is given its left side as right side.
-fn complete(random: &mut Random, model: &mut Model) {
+pub(super) fn complete(random: &mut Random, model: &mut Model) {
     for _ in 0..90 {
-        let Verdict::Critical(critical) = search_only(model) else {
+        let Closure::Critical(critical) = search_only(model) else {
             return;
         };
         let (left, right) = model.rules[critical.rule].clone();
@@ -714,18 +713,27 @@ fn reach(
 fn make_accepted(random: &mut Random, model: &mut Model) {
     complete(random, model);
     make_suitable(random, model);
-    let total = model.total();
-    model.budget = match random.below(5) {
+    model.budget = closing_budget(random, model.total());
+}
+
+/// A budget within which all substitutions are examined.
+pub(super) fn closing_budget(random: &mut Random, total: u64) -> u64 {
+    match random.below(5) {
         0 | 1 => total,
         2 => total + 1,
         3 => u64::from(LARGEST_BUDGET),
         _ => total + random.below(total as usize + 10) as u64,
-    };
+    }
+}
+
+fn spoil(random: &mut Random, model: &mut Model) {
+    spoil_closure(random, model);
+    make_suitable(random, model);
 }
 
 /// A critical pair as it comes, or a late one: in a completed system, by one
 /// transition less or by a rule at the end.
-fn spoil(random: &mut Random, model: &mut Model) {
+pub(super) fn spoil_closure(random: &mut Random, model: &mut Model) {
     match random.below(6) {
         0 => {}
         1 | 2 => {
@@ -742,7 +750,7 @@ fn spoil(random: &mut Random, model: &mut Model) {
                 let place = random.below(model.a.rows.len());
                 let mut less = model.clone();
                 less.a.rows.remove(place);
-                if let Verdict::Critical(critical) = search_only(&less) {
+                if let Closure::Critical(critical) = search_only(&less) {
                     latest = latest.max(Some((critical.place, place)));
                 }
             }
@@ -760,7 +768,7 @@ fn spoil(random: &mut Random, model: &mut Model) {
                     break;
                 }
                 model.rules.push(rule);
-                if matches!(search_only(model), Verdict::Critical(_)) {
+                if matches!(search_only(model), Closure::Critical(_)) {
                     break;
                 }
                 if random.chance(70) {
@@ -769,7 +777,6 @@ fn spoil(random: &mut Random, model: &mut Model) {
             }
         }
     }
-    make_suitable(random, model);
 }
 
 /// A rule at the end whose left side is given a class under one substitution
@@ -848,14 +855,14 @@ fn linear(random: &mut Random, arities: &[u32], variables: u32) -> Option<Tree> 
 
 fn make_critical(random: &mut Random, model: &mut Model) {
     spoil(random, model);
-    let Verdict::Critical(critical) = search_only(model) else {
+    let Closure::Critical(critical) = search_only(model) else {
         return;
     };
     model.budget = critical_budget(random, critical.place, model.total());
 }
 
 /// A budget with which the pair at this place is met.
-fn critical_budget(random: &mut Random, place: u64, total: u64) -> u64 {
+pub(super) fn critical_budget(random: &mut Random, place: u64, total: u64) -> u64 {
     match random.below(6) {
         0 | 1 => place,
         2 => place + 1,
@@ -873,16 +880,17 @@ fn make_stopped(random: &mut Random, model: &mut Model) {
     } else {
         spoil(random, model);
     }
-    let end = match search_only(model) {
-        Verdict::Critical(critical) => critical.place,
-        _ => model.total(),
-    };
-    if end == 0 {
-        return;
+    let end = search_only(model).examined();
+    if end > 0 {
+        model.budget = stopping_budget(random, end);
     }
-    model.budget = match random.below(5) {
+}
+
+/// A budget that is spent before the search comes to its end at this place.
+pub(super) fn stopping_budget(random: &mut Random, end: u64) -> u64 {
+    match random.below(5) {
         0 => 0,
         1 | 2 => end - 1,
         _ => random.below(end as usize) as u64,
-    };
+    }
 }

@@ -25,8 +25,8 @@ returns : tie.Need-returns Inv-loop μ-loop
 unfolding saidFirst
 returns c = sym (smallest-here _ _ _ (omega arith) (sym (c .before .has .ensures) ∙ c .if1 .taken)) ∙ c .before .before .before .loop .inv .1
 
-add-q : tie.Need-add-q Inv-loop μ-loop
-add-q c = omega arith
+add-p : tie.Need-add-p Inv-loop μ-loop
+add-p c = omega arith
 
 loop-less : tie.Need-loop-less Inv-loop μ-loop
 loop-less c = omega arith
@@ -39,4 +39,4 @@ unfolding saidFirst
 returns-2 c = sym (smallest-end _ _ _ (c .loop-test .left)) ∙ c .before .loop .inv .1
 
 pub first-below-spec : {M : Type 1} → statement M
-first-below-spec = tie.close (tie.spec Inv-loop μ-loop loop-holds has-requires returns add-q loop-less loop-again returns-2)
+first-below-spec = tie.close (tie.spec Inv-loop μ-loop loop-holds has-requires returns add-p loop-less loop-again returns-2)

@@ -5,7 +5,9 @@ use mathlib.Core.Path.{_≡_, sym, ap, _∙_}
 use mathlib.Core.Logic.{⊎-elim}
 use borrow.Author.Needs.{needs}
 use Rattle.paper.proofs.Smallest.{smallest-some}
-use Rattle.judge.specs.Pairs.{saidFirst, saidShared, sharedOf}
+use Rattle.paper.specs.Meaning.{Asked}
+use Rattle.verdicts.specs.Said.{saidSharing}
+use Rattle.judge.specs.Pairs.{saidFirst, sharedOf}
 use Rattle.judge.proofs.Seek.{partner-on, partner-off, shared-here, shared-on, shared-end}
 use Rattle.judge.proofs.suitable.first_pair.Statement.{statement}
 use Rattle.judge.proofs.suitable.first_pair.Tie as tie
@@ -42,12 +44,12 @@ unfolding saidFirst
 cast-t18 c = omega (arith, smallest-some _ 0 _ (sym (sym (ap saidFirst (c .before .found .given .1)) ∙ c .before .before .before .first-below .ensures)) .high, c .before .before .before .before .before .before .before .before .before .pre .1)
 
 returns : tie.Need-returns Inv-loop μ-loop
-unfolding saidFirst saidShared
+unfolding saidFirst saidSharing
 returns c =
     let at = c .before .before .before .before .before .before .before .before .loop in
     let found = c .before .before .before .first-below in
-    sym (shared-here _ _ _ _ _ _ (omega arith) _ (partner-on _ _ _ _ _ 0 (sym (c .before .before .before .before .before .before .has .ensures) ∙ c .before .before .before .before .before .if1 .taken) _ (sym (ap saidFirst (c .before .found .given .1)) ∙ found .ensures)))
-    ∙ at .inv .1
+    ap Asked.answered (sym (shared-here _ _ _ _ _ _ (omega arith) _ (partner-on _ _ _ _ _ 0 (sym (c .before .before .before .before .before .before .has .ensures) ∙ c .before .before .before .before .before .if1 .taken) _ (sym (ap saidFirst (c .before .found .given .1)) ∙ found .ensures)))
+    ∙ at .inv .1)
 
 enum-told : tie.Need-enum-told Inv-loop μ-loop
 enum-told c = search needs
@@ -70,8 +72,8 @@ loop-again c = (
 )
 
 returns-2 : tie.Need-returns-2 Inv-loop μ-loop
-unfolding saidShared
-returns-2 c = sym (shared-end _ _ _ _ _ _ (c .loop-test .left)) ∙ c .before .loop .inv .1
+unfolding saidSharing
+returns-2 c = ap Asked.answered (sym (shared-end _ _ _ _ _ _ (c .loop-test .left)) ∙ c .before .loop .inv .1)
 
 pub first-pair-spec : {M : Type 1} → statement M
 first-pair-spec = tie.close (tie.spec Inv-loop μ-loop loop-holds has-requires mul-first-below element-copy-out-first-below first-below-requires enum-known-found cast-t17 cast-t18 returns enum-told add-q loop-less loop-again returns-2)

@@ -1,6 +1,7 @@
 -- `judge::suitable::shared_pair` meets its contract: what is marked is what shares a tree, and the first final pair of it is the paper's.
-use mathlib.Core.Path.{_≡_, sym, _∙_}
+use mathlib.Core.Path.{_≡_, sym, ap, _∙_}
 use lib.ListN.{length}
+use Rattle.paper.specs.Meaning.{Asked}
 use Rattle.tables.specs.Held.{aritiesOf}
 use Rattle.judge.proofs.Bridge.{few-initial, few-bad, few-states, shareable, found-is}
 use native.Mathlib.Omega.{arith}
@@ -48,7 +49,7 @@ returns c =
     let start = c .before .before .before .before .before .before .before .before .before .before .before .before .before .before .before .before .before in
     let s = start .pre .0 in
     let marks = c .before .before .before .before .before .mark .ensures in
-    c .first-pair .ensures ∙ found-is _ _ s _ (start .pre .1) _ marks _ (c .before .before .before .final-classes .ensures)
+    c .first-pair .ensures ∙ ap Asked.answered (found-is _ _ s _ (start .pre .1) _ marks _ (c .before .before .before .final-classes .ensures))
 
 pub shared-pair-spec : {M : Type 1} → statement M
 shared-pair-spec =

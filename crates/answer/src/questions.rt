@@ -1,0 +1,63 @@
+// The answers to the two questions.
+use crate::Shown;
+use crate::eight::put_eight;
+use crate::seven::final_pair;
+use crate::seven::found;
+use crate::seven::only_examined;
+use crate::seven::refused;
+use verdicts::Closure;
+use verdicts::Sharing;
+ghost use Prim.Native.Nat.{_≤_};
+ghost use lib.ListN.{length};
+ghost use Rattle.paper.specs.Answer.{sharingAnswer, closureAnswer};
+ghost use Rattle.verdicts.specs.Said.{saidSharing, saidClosure};
+ghost use Rattle.answer.specs.Shown.{Wrote};
+
+// Writes the answer to the first question from the buffer's start, and gives its length.
+pub fn write_sharing(s: Sharing, out: &mut [u8]) -> usize
+    requires { ⌜ 128 ≤ length (now out) ⌝ }
+    ensures { λ r. ⌜ Wrote (sharingAnswer (saidSharing s)) (now (out .entry)) r (now (out .exit)) ⌝ }
+{
+    match s {
+        Sharing::Pair { class, bad } => put_eight(
+            out,
+            b"sharing=shared\n",
+            final_pair(class, bad, Shown::Nothing),
+        ),
+        Sharing::Nothing => put_eight(out, b"sharing=none\n", only_examined(Shown::Nothing)),
+        Sharing::Refused { number, line } => put_eight(
+            out,
+            b"sharing=malformed\n",
+            refused(number, line),
+        ),
+    }
+}
+
+// Writes the answer to the second question from the buffer's start, and gives its length.
+pub fn write_closure(k: Closure, out: &mut [u8]) -> usize
+    requires { ⌜ 128 ≤ length (now out) ⌝ }
+    ensures { λ r. ⌜ Wrote (closureAnswer (saidClosure k)) (now (out .entry)) r (now (out .exit)) ⌝ }
+{
+    match k {
+        Closure::Critical { pair, examined } => put_eight(
+            out,
+            b"closure=critical\n",
+            found(pair, examined),
+        ),
+        Closure::Closed { examined } => put_eight(
+            out,
+            b"closure=closed\n",
+            only_examined(Shown::Number(examined)),
+        ),
+        Closure::Stopped { examined } => put_eight(
+            out,
+            b"closure=stopped\n",
+            only_examined(Shown::Number(examined)),
+        ),
+        Closure::Refused { number, line } => put_eight(
+            out,
+            b"closure=malformed\n",
+            refused(number, line),
+        ),
+    }
+}
