@@ -4,7 +4,7 @@
  * The functions are proved to be safe for every input. `mergecheck` writes nothing into an answer buffer under MERGECHECK_BUFFER bytes,
  * and otherwise the answer's own bytes and no others; the two others fill every field of the answer that they are lent. Nothing is
  * asked of the caller but that the file is memory that may be read, that what is lent for the answer may be written, and that the two do
- * not overlap. */
+ * not overlap. A call needs at most 512 KB of stack: bindings/rust/tests/stack.rs calls each function on a thread with exactly that much. */
 #ifndef MERGECHECK_H
 #define MERGECHECK_H
 

@@ -1,6 +1,6 @@
-//! Whole certificates through the public operation, beside the reference, in one run: answers are compared, times are the best of several
-//! runs of each in turn, by processor time, and the ratio is the checker's time over the reference's. The last column is its time over that of
-//! the same algorithm in Rust, which is given the tables and only searches.
+//! Whole certificates through the public operation, beside the reference, in one run: answers are compared, times are the best of seven
+//! runs of each in turn (of three for the reference where a run takes half a second), by processor time, and the ratio is the checker's time
+//! over the reference's. The last column is its time over that of the same algorithm in Rust, which is given the tables and only searches.
 mod same;
 
 use same::Case;
@@ -24,8 +24,17 @@ fn processor_time() -> f64 {
     time.seconds as f64 + time.nanoseconds as f64 * 1e-9
 }
 
-/// Runs both on the files, and prints times, their ratio and, where substitutions were examined, the time for each of them. Where a case is
-/// given, the search by the same algorithm is run beside them too.
+/// The time of one run, in seconds, where so many are made.
+fn timed(rounds: usize, mut run: impl FnMut()) -> f64 {
+    let start = processor_time();
+    for _ in 0..rounds {
+        run();
+    }
+    (processor_time() - start) / rounds as f64
+}
+
+/// Runs both on the files, and prints times, their ratio and, where more than one substitution was examined, the time for each of them. Where
+/// a case is given, the search by the same algorithm is run beside them too.
 fn compare(name: &str, files: &[Vec<u8>], rounds: usize, case: Option<&Case>) {
     let mut examined = 0u64;
     for file in files {
@@ -39,29 +48,27 @@ fn compare(name: &str, files: &[Vec<u8>], rounds: usize, case: Option<&Case>) {
         assert_eq!(case.search(), examined, "{name}: the counts differ");
     }
     let (mut checker, mut other, mut alike) = (f64::MAX, f64::MAX, f64::MAX);
-    for _ in 0..7 {
-        let start = processor_time();
-        for _ in 0..rounds {
+    for run in 0..7 {
+        checker = checker.min(timed(rounds, || {
             for file in files {
                 let mut out = [0u8; mergecheck::BUFFER];
                 black_box(mergecheck::check(black_box(file), &mut out));
             }
+        }));
+        if run < 3 || other < 0.5 {
+            other = other.min(timed(rounds, || {
+                for file in files {
+                    black_box(reference::answer(black_box(file)));
+                }
+            }));
         }
-        checker = checker.min((processor_time() - start) / rounds as f64);
-        let start = processor_time();
-        for _ in 0..rounds {
-            for file in files {
-                black_box(reference::answer(black_box(file)));
-            }
-        }
-        other = other.min((processor_time() - start) / rounds as f64);
         if let Some(case) = case {
-            let start = processor_time();
-            black_box(black_box(case).search());
-            alike = alike.min(processor_time() - start);
+            alike = alike.min(timed(rounds, || {
+                black_box(black_box(case).search());
+            }));
         }
     }
-    let per = |time: f64| if examined > 0 { format!("{:.3}", time * 1e9 / examined as f64) } else { "-".into() };
+    let per = |time: f64| if examined > 1 { format!("{:.3}", time * 1e9 / examined as f64) } else { "-".into() };
     let ratio = if case.is_some() { format!("{:.2}", checker / alike) } else { "-".into() };
     println!(
         "{name:<44} {examined:>10} {:>12.3} {:>12.3} {:>9} {:>9} {:>6.2} {ratio:>6}",
@@ -73,10 +80,10 @@ fn compare(name: &str, files: &[Vec<u8>], rounds: usize, case: Option<&Case>) {
     );
 }
 
-/// A certificate of 32 states, nothing merged, with these transitions and this rule written n times; no final states.
-fn certificate(arities: &[u8], rows: &[Vec<u8>], side: &str, n: usize, budget: u32) -> Vec<u8> {
+/// A certificate of k states, nothing merged, with these transitions and this rule written n times; no final states.
+fn certificate(k: u8, arities: &[u8], rows: &[Vec<u8>], side: &str, n: usize, budget: u32) -> Vec<u8> {
     let list = |numbers: &[u8]| numbers.iter().map(u8::to_string).collect::<Vec<_>>().join(",");
-    let mut text = format!("budget={budget}\narities={}\nstates=32\nfinal=\ntrans={}\n", list(arities), rows.len());
+    let mut text = format!("budget={budget}\narities={}\nstates={k}\nfinal=\ntrans={}\n", list(arities), rows.len());
     for row in rows {
         text += &format!("t={}\n", list(row));
     }
@@ -84,7 +91,7 @@ fn certificate(arities: &[u8], rows: &[Vec<u8>], side: &str, n: usize, budget: u
     for _ in 0..n {
         text += &format!("l={side}\nr={side}\n");
     }
-    text += &format!("merge={}\n", list(&(0..32).collect::<Vec<u8>>()));
+    text += &format!("merge={}\n", list(&(0..k).collect::<Vec<u8>>()));
     text.into_bytes()
 }
 
@@ -100,21 +107,53 @@ impl Numbers {
     }
 }
 
-/// A certificate made from its parts, beside the same algorithm.
+/// A certificate of 32 states made from its parts, beside the same algorithm.
 fn both(name: &str, arities: &[u8], rows: &[Vec<u8>], side: &str, n: usize, budget: u32) {
     let case = Case::new(arities, rows, side, n, 32, budget);
-    compare(name, &[certificate(arities, rows, side, n, budget)], 1, Some(&case));
+    compare(name, &[certificate(32, arities, rows, side, n, budget)], 1, Some(&case));
+}
+
+/// How the time grows: a dense table of k classes, and n rules of four variables.
+fn growth(k: u8, n: usize) {
+    let rows = dense(k, &mut Numbers(12345));
+    let case = Case::new(&ARITIES, &rows, SHORT, n, k as usize, LARGEST);
+    let rounds = ((1 << 20) / (k as usize).pow(4)).max(1);
+    let rules = if n == 1 { "one rule".into() } else { format!("{n} rules") };
+    compare(&format!("{k} classes, {rules}"), &[certificate(k, &ARITIES, &rows, SHORT, n, LARGEST)], rounds, Some(&case));
+}
+
+/// A file of the project, by its path from this folder.
+fn file(path: &str) -> Vec<u8> {
+    let path = PathBuf::from(env!("CARGO_MANIFEST_DIR")).join(path);
+    std::fs::read(&path).unwrap_or_else(|e| panic!("{}: {e}", path.display()))
 }
 
 fn example(name: &str) -> Vec<u8> {
-    let path = PathBuf::from(env!("CARGO_MANIFEST_DIR")).join("../examples").join(name);
-    std::fs::read(&path).unwrap_or_else(|e| panic!("{}: {e}", path.display()))
+    file(&format!("../examples/{name}"))
+}
+
+/// A certificate made to be slow, and the same algorithm's case of it.
+fn worst(name: &str) -> (Vec<u8>, Case) {
+    let bytes = file(&format!("worst/{name}.cert"));
+    let case = Case::from_text(std::str::from_utf8(&bytes).unwrap());
+    (bytes, case)
+}
+
+/// Of a certificate that the checker refuses, since it has more than 32 states: the time of the same algorithm in Rust alone.
+fn refused(name: &str) {
+    let (bytes, case) = worst(name);
+    let answer = mergecheck::answer(&bytes);
+    assert!(answer.starts_with("verdict=malformed\n"), "{name} is not refused: it can be compared");
+    assert_eq!(answer.as_bytes(), &reference::answer(&bytes).1[..], "{name}: the answers differ");
+    let mut examined = 0;
+    let time = (0..3).map(|_| timed(1, || examined = black_box(black_box(&case).search()))).fold(f64::MAX, f64::min);
+    let name = format!("{name}, refused today");
+    println!("{name:<44} {examined:>10} {:>12.3} {:>22.3}", time * 1e3, time * 1e9 / examined as f64);
 }
 
 /// The corpus of `trials`: each certificate after its length in two bytes.
 fn corpus() -> Vec<Vec<u8>> {
-    let path = PathBuf::from(env!("CARGO_MANIFEST_DIR")).join("../crates/trials/stdin");
-    let stream = std::fs::read(&path).unwrap_or_else(|e| panic!("{}: {e}", path.display()));
+    let stream = file("../crates/trials/stdin");
     let (mut files, mut at) = (Vec::new(), 0);
     while at + 2 <= stream.len() {
         let length = stream[at] as usize * 256 + stream[at + 1] as usize;
@@ -124,18 +163,16 @@ fn corpus() -> Vec<Vec<u8>> {
     files
 }
 
-fn main() {
-    const LARGEST: u32 = 33_554_432;
-    println!("{:<44} {:>10} {:>12} {:>12} {:>9} {:>9} {:>6} {:>6}", "", "examined", "checker, ms", "reference", "ns each", "ns each", "ratio", "same");
-    compare("the document's example, 207 bytes", &[example("K1.cert")], 2000, None);
-    compare("the call-frame example, 366 bytes", &[example("frames-accepted.cert")], 2000, None);
-    compare("the corpus of trials", &corpus(), 1, None);
+const LARGEST: u32 = 33_554_432;
 
-    // Dense: symbol 1 takes every class to one of four, and symbol 3 any two of those four to one of them, so no left side is ever empty.
-    let arities = [0, 1, 1, 2, 2, 3, 3, 0];
-    let mut numbers = Numbers(12345);
+const ARITIES: [u8; 8] = [0, 1, 1, 2, 2, 3, 3, 0];
+
+const SHORT: &str = "1,3,1,x0,3,1,x1,3,1,x2,1,x3";
+
+/// Dense: symbol 1 takes every class to one of four, and symbol 3 any two of those four to one of them, so no left side is ever empty.
+fn dense(k: u8, numbers: &mut Numbers) -> Vec<Vec<u8>> {
     let mut rows: Vec<Vec<u8>> = Vec::new();
-    for i in 0..32u8 {
+    for i in 0..k {
         rows.push(vec![1, i, (i.wrapping_mul(7) + 3) % 4]);
         rows.push(vec![2, i, (i.wrapping_mul(5) + 1) % 4]);
     }
@@ -144,13 +181,31 @@ fn main() {
             rows.push(vec![3, i, j, numbers.below(4)]);
         }
     }
-    for i in 0..32u8 {
-        rows.push(vec![4, i, numbers.below(4), (i.wrapping_mul(9) + 5) % 32]);
+    for i in 0..k {
+        rows.push(vec![4, i, numbers.below(4), (i.wrapping_mul(9) + 5) % k]);
     }
-    for i in 0..16 {
-        rows.push(vec![3, 4 + i, numbers.below(32), numbers.below(32)]);
+    for i in 4..k.min(20) {
+        rows.push(vec![3, i, numbers.below(k as u64), numbers.below(k as u64)]);
     }
-    let short = "1,3,1,x0,3,1,x1,3,1,x2,1,x3";
+    rows
+}
+
+fn main() {
+    println!("{:<44} {:>10} {:>12} {:>12} {:>9} {:>9} {:>6} {:>6}", "", "examined", "checker, ms", "reference", "ns each", "ns each", "ratio", "same");
+    compare("the document's example, 207 bytes", &[example("K1.cert")], 2000, None);
+    compare("the call-frame example, 366 bytes", &[example("frames-accepted.cert")], 2000, None);
+    compare("the corpus of trials", &corpus(), 1, None);
+
+    // Made to be slow: the first two for the search, the third for the question of sharing.
+    for name in ["chain-32", "subset-32"] {
+        let (bytes, case) = worst(name);
+        compare(name, &[bytes], 1, Some(&case));
+    }
+    compare("cycles-32", &[file("worst/cycles-32.cert")], 10, None);
+
+    let (arities, short) = (ARITIES, SHORT);
+    let mut numbers = Numbers(12345);
+    let rows = dense(32, &mut numbers);
     let long = "1,2,1,3,1,2,1,x0,3,1,2,2,x1,3,2,1,1,x2,1,2,1,2,1,x3";
     both("dense, 12 tokens a side, one rule", &arities, &rows, short, 1, LARGEST);
     both("dense, 24 tokens a side, one rule", &arities, &rows, long, 1, LARGEST);
@@ -217,4 +272,14 @@ fn main() {
         quarter.push(vec![3, 0, i, 0]);
     }
     both("a quarter alive at each depth, largest total", &arities, &quarter, short, 32, LARGEST);
+
+    println!("\nhow the time grows: a dense table, 12 tokens a side");
+    for (k, n) in [(8, 1), (16, 1), (32, 1), (32, 8), (32, 32)] {
+        growth(k, n);
+    }
+
+    println!("\n{:<44} {:>10} {:>12} {:>22}", "64 classes, the same algorithm in Rust alone", "examined", "same, ms", "ns each");
+    for name in ["chain-64", "subset-64"] {
+        refused(name);
+    }
 }

@@ -14,6 +14,9 @@ extern "C" {
 /// The least answer buffer. Every answer is shorter.
 pub const BUFFER: usize = 128;
 
+/// How much stack a call needs at most, in bytes; a test calls it on a thread with exactly that much.
+pub const STACK: usize = 512 * 1024;
+
 /// What a call gives back: the refusal's number (0 when not malformed) and the answer's length.
 #[derive(Clone, Copy, Debug, PartialEq, Eq)]
 pub struct Answered {

@@ -1,14 +1,14 @@
 -- The search over the woven table is the paper's over the merged automaton, and the verdict on what the tables hold is put together from the two questions.
-use mathlib.Core.Path.{_≡_, refl, ap, _∙_}
-use mathlib.Core.List.{List}
-use Prim.Native.Nat.{ℕ, _*_, _≤_}
+use mathlib.Core.Path.{_≡_, refl, sym, ap, _∙_, subst}
+use mathlib.Core.List.{List, List·Memᴰ, Memᴰ·of-map}
+use Prim.Native.Nat.{ℕ, _*_, _≤_, _<_}
 use native.Mathlib.Omega.{arith}
 use lib.ListN.{length-map}
 use Rattle.theory.specs.Lists.{countFrom}
-use Rattle.theory.specs.Automaton.{Automaton, InRange, classes, merged}
+use Rattle.theory.specs.Automaton.{Automaton, Transition, InRange, classOf, classes, mergeTransition, merged}
 use Rattle.theory.proofs.Count.{length-count}
 use Rattle.theory.proofs.Grow.{Contained}
-use Rattle.theory.proofs.Merged.{merged-in-range}
+use Rattle.theory.proofs.Merged.{class-below, merged-in-range}
 use Rattle.paper.specs.Limits.{mostRules}
 use Rattle.paper.specs.Meaning.{Sharing, Asked, together}
 use Rattle.paper.specs.Computed.{cases, sharing, examine, closure, judge, verdict, sharingIn, closureIn}
@@ -20,9 +20,18 @@ use Rattle.woven.specs.Woven.{Flat, Indexed, SameMoves}
 use Rattle.woven.proofs.Members.{examine-same}
 use Rattle.lanes.specs.Automaton.{automatonOf}
 use Rattle.search.specs.Searched.{Searchable}
+use Rattle.alike.proofs.Groups.{grouped-same}
 use Rattle.judge.specs.Merged.{Merged}
-use Rattle.judge.specs.Judged.{mergedOf, badOf}
+use Rattle.judge.specs.Judged.{mergedOf, badOf, GroupedBy}
 use Rattle.judge.proofs.Bridge.{few-initial, few-states, rank, moves-merged}
+
+-- Every argument of a merged transition is a class.
+arguments-low : (merge : List ℕ) (A : Automaton) (tr : Transition) → List·Memᴰ tr (merged merge A .transitions) → (c : ℕ) → List·Memᴰ c (tr .arguments) → c < classes merge
+unfolding merged mergeTransition
+arguments-low merge A tr n c l =
+    let (a, i, e) = Memᴰ·of-map (mergeTransition merge) (A .transitions) n in
+    let (q, j, is) = Memᴰ·of-map (classOf merge) (a .arguments) (subst (λ (b : Transition). List·Memᴰ c (b .arguments)) (sym e) l) in
+    subst (λ d. d < classes merge) is (class-below merge q)
 
 module _ (t : Tables) (m : Merging) (s : Sound t m) where
   abbrev ar : List ℕ
@@ -55,11 +64,12 @@ module _ (t : Tables) (m : Merging) (s : Sound t m) where
       few-rules = omega (arith, s .well .most-rules, length-map (countFrom 0 (t .rules .count)) (Rattle.tables.specs.Held.ruleAt ar (t .rules)), length-count 0 (t .rules .count))
 
       -- The search relies on nothing else.
-      pub searchable : Searchable ar words heads (t .rules) (m .classes)
-      unfolding held classes
-      searchable = record {
+      pub searchable : (groups : List ℕ) → GroupedBy t bytes groups → Searchable ar words heads (t .rules) (m .classes) groups
+      unfolding held classes automatonOf
+      searchable groups grouped = record {
         indexed = indexed;
         in-range = inside;
+        arguments = λ tr n c l. omega (arith, s .classes, arguments-low (mergeOf t m) (tableOf ar (t .initial)) tr (there tr n) c l);
         ranks = rank t m s;
         sound = s .rules;
         shaped = λ rule n. s .well .rules rule n .shaped;
@@ -67,6 +77,7 @@ module _ (t : Tables) (m : Merging) (s : Sound t m) where
         most-rules = few-rules;
         some-class = omega (arith, s .classes);
         most-classes = omega (arith, few-states t m s .2);
+        grouped = λ long. grouped-same (same .same ar) (grouped long ar);
       }
 
       -- What it says is what the paper says of the merged automaton.

@@ -2,6 +2,7 @@
 pub mod merging;
 pub mod suitable;
 
+use alike::group;
 use merging::Rows;
 use merging::merged_rows;
 use search::search;
@@ -34,7 +35,10 @@ fn merged_of(t: Tables, m: Merging) -> Rows
     merged_rows(&rows, &merge, initial.count)
 }
 
-// The first critical pair of the merged automaton, whose rows are `merged`, within the budget.
+// How many classes are few: then there is little to pass over, and no groups of alike classes are made.
+const FEW: usize = 8;
+
+// The first critical pair of the merged automaton, whose rows are `merged`, within the budget. A class takes 52 rows of values.
 pub fn first_critical(t: Tables, m: Merging, merged: Rows) -> Closure
     requires { ⌜ Sound t m ⌝ }
     requires { ⌜ Merged (t .initial .rows) (m .merge) (t .initial .count * 5) (merged .bytes) ⌝ }
@@ -47,14 +51,33 @@ pub fn first_critical(t: Tables, m: Merging, merged: Rows) -> Closure
     let woven = weave(&bytes, initial.count);
     let words = woven.words;
     let heads = woven.heads;
+    let k = m.classes;
+    if k <= FEW {
+        let none = [0u64; 0];
+        let mut few = [[0u64; 8]; 416];
+        return search(
+            &words,
+            &heads,
+            &arities[..t.symbols],
+            rules,
+            k,
+            t.budget,
+            &none,
+            &mut few,
+        );
+    }
+    let mut groups = [0u64; 12288];
+    group(&bytes, initial.count, &mut groups);
+    let mut many = [[0u64; 8]; 3328];
     search(
         &words,
         &heads,
-        &arities,
-        t.symbols,
+        &arities[..t.symbols],
         rules,
-        m.classes as u64,
+        k,
         t.budget,
+        &groups,
+        &mut many,
     )
 }
 

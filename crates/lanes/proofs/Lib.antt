@@ -1,4 +1,13 @@
-pub mod Masks
-pub mod Numbers
+pub mod Blocks
+pub mod Calm
 pub mod Coded
+pub mod Comparing
+pub mod Dead
+pub mod Judging
+pub mod Numbers
+pub mod Opened
 pub mod Shown
+pub mod SideRows
+pub mod Stays
+pub mod Trying
+pub mod VariableRows

@@ -33,11 +33,3 @@ pairOf rule v x0 x1 x2 j q =
       x3 = getD (chosen v x0 x1 x2 j) 3 255;
       class = q;
     }
-
--- The code of the variable i with the class x, where the variable `own` has its lane's class and the later ones have the code `later`.
-unfoldable pub codeOf : (own later i x : ℕ) → ℕ
-codeOf own later i x = cond (ltb i own) x (cond (eqb i own) 64 later)
-
--- The codes of the four variables.
-unfoldable pub codesOf : (own later x0 x1 x2 : ℕ) → List ℕ
-codesOf own later x0 x1 x2 = codeOf own later 0 x0 ∷ (codeOf own later 1 x1 ∷ (codeOf own later 2 x2 ∷ (codeOf own later 3 0 ∷ [])))

@@ -1,4 +1,6 @@
-// Blocks of substitutions: those that differ in a rule's last variable alone, judged all at once.
+// Blocks of substitutions: those of a rule's last two variables, 512 at once, one to a lane.
 pub mod block;
-pub mod halves;
+pub mod opening;
 pub mod prefixes;
+pub mod sides;
+pub mod variables;

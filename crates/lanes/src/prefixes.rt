@@ -2,11 +2,11 @@
 use verdicts::CriticalPair;
 use verdicts::NO_CLASS;
 ghost use mathlib.Core.Path.{_≡_};
-ghost use Prim.Native.Nat.{_+_, _-_, _^_, _≤_, _<_};
-ghost use Rattle.lanes.specs.Prefixes.{rest, choices, pairOf, codeOf};
+ghost use Prim.Native.Nat.{_^_, _≤_, _<_};
+ghost use Rattle.lanes.specs.Prefixes.{rest, choices, pairOf};
 
 // How many of v variables are left where the first i have their classes.
-pub fn left(v: u8, i: u8) -> u8
+fn left(v: u8, i: u8) -> u8
     ensures { λ r. ⌜ r ≡ rest v i ⌝ }
 {
     if i < v {
@@ -15,15 +15,8 @@ pub fn left(v: u8, i: u8) -> u8
     if v == 0 { 0 } else { 1 }
 }
 
-// The last of v variables, and 0 where there is none.
-pub fn last(v: u8) -> u8
-    ensures { λ r. ⌜ r ≡ v - 1 ⌝ }
-{
-    if v == 0 { 0 } else { v - 1 }
-}
-
 // The power k^n.
-pub fn power(k: u64, n: u8) -> u64
+fn power(k: u64, n: u8) -> u64
     requires { ⌜ (k ≤ 64) × (n ≤ 3) ⌝ }
     ensures { λ r. ⌜ r ≡ k ^ n ⌝ }
 {
@@ -39,23 +32,20 @@ pub fn power(k: u64, n: u8) -> u64
     k * k * k
 }
 
+// How many substitutions have the same classes in the first i of v variables, all classes of the last being judged at once.
+pub fn many(k: u64, v: u8, i: u8) -> u64
+    requires { ⌜ (k ≤ 64) × (v ≤ 4) × (0 < i) ⌝ }
+    ensures { λ r. ⌜ r ≡ k ^ rest v i ⌝ }
+{
+    power(k, left(v, i))
+}
+
 // How many classes the variable i runs through by itself.
 pub fn tries(k: u64, v: u8, i: u8) -> u64
     requires { ⌜ i < 4 ⌝ }
     ensures { λ r. ⌜ r ≡ choices k v i ⌝ }
 {
     if i + 1 < v { k } else { 1 }
-}
-
-// The code of the variable i with the class x.
-pub fn code(own: u8, later: u8, i: u8, x: u64) -> u8
-    requires { ⌜ x < 64 ⌝ }
-    ensures { λ r. ⌜ r ≡ codeOf own later i x ⌝ }
-{
-    if i < own {
-        return x as u8;
-    }
-    if i == own { 64 } else { later }
 }
 
 // The critical pair of a rule, with the classes of its v variables.

@@ -8,24 +8,20 @@ use native.Mathlib.Numerals.{add-one}
 use native.Mathlib.Decide.{decLt}
 use native.Mathlib.Omega.{arith}
 use lib.Arith.{digits-lt}
-use lib.ListN.{length, getD, take, drop, length-take, length-append, take-append-drop, List·getD-eq-default}
+use lib.ListN.{length, getD, take, drop, length-take, length-append, take-append-drop}
 use lib.Seq.{drop-cons, getD-take, take-all, take-append-le}
 use Rattle.theory.specs.Rewriting.{Rule, variableCount, WellShapedRules}
 use Rattle.theory.specs.Automaton.{Automaton, InRange}
-use Rattle.theory.specs.Critical.{entry}
-use Rattle.theory.specs.Value.{value, substitutions, isCritical}
-use Rattle.theory.proofs.Search.{substitutions-sound, left-below}
+use Rattle.theory.specs.Value.{substitutions, isCritical}
+use Rattle.theory.proofs.Search.{left-below}
 use Rattle.paper.specs.Meaning.{Closure, Asked, total, Smallest}
 use Rattle.paper.specs.Computed.{Case, case, cases, closure}
 use Rattle.paper.proofs.Listed.{CriticalFor, Quiet}
-use Rattle.paper.proofs.Cases.{length-cases, length-substitutions, critical-iff, class-some, class-none}
+use Rattle.paper.proofs.Cases.{length-cases, critical-iff, class-some, class-none}
 use Rattle.paper.proofs.Examined.{Outcome, decides}
-use Rattle.sets.specs.Sets.{mem}
 use Rattle.lanes.specs.Prefixes.{rest, choices, chosen}
-use Rattle.lanes.specs.Blocks.{Alive}
-use Rattle.lanes.proofs.Numbers.{rest-in, rest-out, rest-all, choices-in, choices-out, choices-low, all-choices, pow-1}
-use Rattle.search.proofs.Order.{place-listed, listed-place, substitution-at, noCase, ruleIn, case-at, total-next, total-inside}
-use Rattle.theory.proofs.Bools.{and-off}
+use Rattle.lanes.proofs.Numbers.{rest-in, rest-out, rest-all, choices-in, choices-out, all-choices, pow-1}
+use Rattle.search.proofs.Order.{listed-place, substitution-at, noCase, ruleIn, case-at, total-next, total-inside}
 
 module _ (M : Automaton) (R : List Rule) where
   abbrev pub all : List Case
@@ -166,36 +162,6 @@ module _ (M : Automaton) (R : List Rule) where
     pub judged : (budget : ℕ) (k : Closure) → Outcome M all budget 0 k → Asked.answered k ≡ Asked.answered (closure M R budget)
     unfolding closure
     judged budget v o = ap Asked.answered (sym (decides M all budget 0 (λ c m. record { some-class = class-some M R c; no-class = class-none M R range shaped c m }) v o))
-
-    entries-low : (τ : List ℕ) → 1 ≤ M .states → M .states ≤ 64 → ((c : ℕ) → List·Memᴰ c τ → c < M .states) → (a : ℕ) → getD τ a 0 < 64
-    entries-low τ some most low a = elim (decLt a (length τ)) [
-      | yes h ↦ omega (arith, low (getD τ a 0) (place-listed τ 0 a h))
-      | no nh ↦ omega (arith, List·getD-eq-default τ 0 (past nh))
-    ]
-      where
-        past : (a < length τ → ⊥) → length τ ≤ a
-        past nh = omega arith
-
-    -- Where the choice y is dead, none of the substitutions with it has a critical class.
-    pub dead-calm : (v i r : ℕ) (rule : Rule) (xs : List ℕ) (budget start y n : ℕ) → Level v i r rule xs budget start y n → y < choices (M .states) v i → (a b mask : ℕ) → Alive M rule v i a b mask → take i (a ∷ (b ∷ [])) ≡ xs → mem mask y ≡ false
-        → v ≤ 4 → 1 ≤ M .states → M .states ≤ 64 → List·Memᴰ rule R → (d : ℕ) → d < M .states ^ rest v (i + 1) → Calm (caseAt (n + d))
-    unfolding rest isCritical
-    dead-calm v i r rule xs budget start y n t going a b mask alive e gone few some most listed d hd =
-        let k = M .states in
-        let w = rest v (i + 1) in
-        let τ = getD (substitutions k w) d [] in
-        let low : y < 64 = omega (arith, choices-low k v i some) in
-        let early = alive .early y low gone in
-        let sound = substitutions-sound k w (place-listed (substitutions k w) [] d (omega (arith, length-substitutions k w))) in
-        let σ : take (v - w) (xs ++ (y ∷ [])) ++ τ ≡ (take i (a ∷ (b ∷ [])) ++ (y ∷ [])) ++ τ = ap (λ l. l ++ τ) (level-prefix v i r rule xs budget start y n t going early ∙ ap (λ l. l ++ (y ∷ [])) (sym e)) in
-        subst Calm (sym (level-run v i r rule xs budget start y n t going .each d hd ∙ ap (case r rule) σ))
-        (calm-from r rule ((take i (a ∷ (b ∷ [])) ++ (y ∷ [])) ++ τ) listed (λ q hq. off ((take i (a ∷ (b ∷ [])) ++ (y ∷ [])) ++ τ) q (alive .dead y low gone τ (entries-low τ some most (sound .1)) (omega (arith, sound .0, left early)) q (omega arith))))
-      where
-        left : i + 1 < v → i + 1 + rest v (i + 1) ≤ 4
-        left h = omega arith
-
-        off : (σ : List ℕ) (q : ℕ) → value M (entry σ) (rule .left) q ≡ false → isCritical M rule σ q ≡ false
-        off σ q h = and-off _ _ h
 
     -- The first class that is critical.
     pub smallest-class : (r : ℕ) (rule : Rule) (σ : List ℕ) (q : ℕ) → isCritical M rule σ q ≡ true → ((x : ℕ) → x < q → isCritical M rule σ x ≡ false) → Smallest (CriticalFor M (case r rule σ)) q

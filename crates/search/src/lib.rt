@@ -1,35 +1,64 @@
-// The search for the first critical pair: all classes of a rule's last variable at once, prefixes under which the left side has no class
-// passed over whole, and of the third of four variables only the suspected classes looked at one by one.
-use lanes::block::alive;
+// The search for the first critical pair. Of a rule's variables before the last two only those classes are gone into that are needed and with which
+// there is a critical pair; the rest is counted whole.
+use alike::needed;
 use lanes::block::block;
-use lanes::block::critical;
-use lanes::halves::suspects;
-use lanes::prefixes::left;
+use lanes::opening::open;
+use lanes::prefixes::many;
 use lanes::prefixes::pair;
-use lanes::prefixes::power;
 use lanes::prefixes::tries;
+use lanes::sides::critical;
 use sets::has;
 use tables::Rules;
+use values::block_of;
 use verdicts::Closure;
-ghost use lib.ListN.{take};
+ghost use Prim.Native.Nat.{_*_, _≤_};
+ghost use lib.ListN.{length};
+ghost use Rattle.theory.specs.Rewriting.{Rule};
 ghost use Rattle.paper.specs.Meaning.{Asked};
 ghost use Rattle.verdicts.specs.Said.{Tells};
-ghost use Rattle.search.specs.Searched.{Searchable, searched};
+ghost use Rattle.lanes.specs.Automaton.{automatonOf};
+ghost use Rattle.lanes.specs.Blocks.{Judgeable, Prefix, Long};
+ghost use Rattle.search.specs.Searched.{Searchable, Told, Opened, searched};
 
-// The first critical pair among the first `budget` substitutions, k classes being there; closed where there is none at all.
+// The classes of the variable after the prefix that are gone into: with every other one there is no critical pair, or a smaller class gives both sides
+// the same value.
+fn opened<'a>(
+    words: &'a [u64; 128],
+    heads: &'a [u8; 65],
+    arities: &'a [u8],
+    tokens: &'a [u8],
+    k: usize,
+    v: usize,
+    xs: &'a [u8],
+    groups: &'a [u64],
+    m: &mut [[u64; 8]],
+) -> u64
+    requires { ⌜ Judgeable (now arities) (now words) (now heads) (now tokens) k (now m) × (v ≤ 4) × Prefix k 2 (now xs) ⌝ }
+    ensures { λ r. ⌜ ((rule : Rule) → Told (now (arities .entry)) (now (words .entry)) (now (heads .entry)) (now (tokens .entry)) k v (now (groups .entry)) rule
+        → Opened (automatonOf (now (arities .entry)) (now (words .entry)) (now (heads .entry)) k) rule v (now (xs .entry)) r)
+        × Long (now (m .entry)) (now (m .exit)) ⌝ }
+{
+    let looked_at = needed(groups, arities, tokens, xs.len() as u8);
+    open(words, heads, arities, tokens, k, v, xs, looked_at, m)
+}
+
+// The first critical pair among the first `budget` substitutions, k classes being there; closed where there is none at all. The rows are lent for the values.
 pub fn search<'a>(
     words: &'a [u64; 128],
     heads: &'a [u8; 65],
-    arities: &'a [u8; 64],
-    symbols: usize,
+    arities: &'a [u8],
     rules: Rules,
-    k: u64,
+    k: usize,
     budget: u32,
+    groups: &'a [u64],
+    m: &mut [[u64; 8]],
 ) -> Closure
-    requires { ⌜ Searchable (take symbols (now arities)) (now words) (now heads) rules k ⌝ }
-    ensures { λ r. ⌜ Tells (Asked.answered (searched (take symbols (now (arities .entry))) (now (words .entry)) (now (heads .entry)) rules k budget)) r ⌝ }
+    requires { ⌜ Searchable (now arities) (now words) (now heads) rules k (now groups) × (52 * k ≤ length (now m)) ⌝ }
+    ensures { λ r. ⌜ Tells (Asked.answered (searched (now (arities .entry)) (now (words .entry)) (now (heads .entry)) rules k budget)) r ⌝ }
 {
+    let all = rules.tokens;
     let most = budget as u64;
+    let size = k as u64;
     let count = rules.count;
     let mut examined: u64 = 0;
     let mut rule: usize = 0;
@@ -40,84 +69,50 @@ pub fn search<'a>(
             };
         }
         let at = rule * 48;
+        let tokens = &all[at..at + 48];
         let v = rules.variables[rule];
-        let lanes = power(k, left(v, 3));
-        let many = power(k, left(v, 2));
-        let more = power(k, left(v, 1));
-        let m0 = tries(k, v, 0);
-        let m1 = tries(k, v, 1);
-        let m2 = tries(k, v, 2);
-        let live0 = alive(
+        let lanes = many(size, v, 3);
+        let passed1 = many(size, v, 2);
+        let passed0 = many(size, v, 1);
+        let m0 = tries(size, v, 0);
+        let m1 = tries(size, v, 1);
+        let m2 = tries(size, v, 2);
+        let variables = v as usize;
+        let right = block_of(tokens, 24) * k;
+        let none = [0u8; 0];
+        let open0 = opened(
             words,
             heads,
             arities,
-            symbols,
-            &rules.tokens,
-            at,
-            v,
-            0,
-            0,
-            0,
+            tokens,
+            k,
+            variables,
+            &none,
+            groups,
+            m,
         );
         let mut x0: u64 = 0;
         'first: while x0 < m0 {
-            if has(live0, x0) {
-                let live1 = alive(
-                    words,
-                    heads,
-                    arities,
-                    symbols,
-                    &rules.tokens,
-                    at,
-                    v,
-                    1,
-                    x0,
-                    0,
-                );
+            if has(open0, x0) {
+                let one = [x0 as u8];
+                let open1 = opened(words, heads, arities, tokens, k, variables, &one, groups, m);
                 let mut x1: u64 = 0;
                 'second: while x1 < m1 {
-                    if has(live1, x1) {
-                        let suspected = suspects(
-                            words,
-                            heads,
-                            arities,
-                            symbols,
-                            &rules.tokens,
-                            at,
-                            v,
-                            k,
-                            x0,
-                            x1,
-                        );
+                    if has(open1, x1) {
                         let mut x2: u64 = 0;
                         'third: while x2 < m2 {
-                            let mut l = [0u64; 64];
-                            let mut r = [0u64; 64];
-                            if block(
-                                words,
-                                heads,
-                                arities,
-                                symbols,
-                                &rules.tokens,
-                                at,
-                                v,
-                                suspected,
-                                x0,
-                                x1,
-                                x2,
-                                &mut l,
-                                &mut r,
-                            ) {
+                            let three = [x0 as u8, x1 as u8, x2 as u8];
+                            if block(words, heads, arities, tokens, k, variables, &three, m) {
                                 let mut j: u64 = 0;
                                 'lanes: while j < lanes {
                                     if examined == most {
                                         break 'search Closure::Stopped { examined: budget };
                                     }
                                     examined += 1;
-                                    let mut q: u64 = 0;
+                                    let mut q: usize = 0;
                                     'classes: while q < k {
-                                        if critical(&l, &r, q, j) {
-                                            let found = pair(rule, v, x0, x1, x2, j, q);
+                                        if critical(m, k, right, q, j) {
+                                            let found = pair(rule, v, x0, x1, x2, j, q as u64);
                                             break 'search Closure::Critical {
                                                 pair: found,
                                                 examined: examined as u32,
@@ -136,18 +131,18 @@ pub fn search<'a>(
                             x2 += 1;
                         }
                     } else {
-                        if most - examined < many {
+                        if most - examined < passed1 {
                             break 'search Closure::Stopped { examined: budget };
                         }
-                        examined += many;
+                        examined += passed1;
                     }
                     x1 += 1;
                 }
             } else {
-                if most - examined < more {
+                if most - examined < passed0 {
                     break 'search Closure::Stopped { examined: budget };
                 }
-                examined += more;
+                examined += passed0;
             }
             x0 += 1;
         }

@@ -3,6 +3,7 @@ use Prim.Native.Nat.{ℕ, _+_, _*_, _/_, _^_, _≤_, _<_}
 use mathlib.Core.Bool.{Bool, true, false, _&&_, _||_}
 use mathlib.Core.List.{List, [], _∷_}
 use mathlib.Core.Path.{_≡_}
+use mathlib.Core.Logic.{_⊎_}
 use lib.Dec.{eqb, leb}
 use lib.ListN.{length, getD}
 use Rattle.theory.specs.Automaton.{Automaton}
@@ -51,13 +52,28 @@ unfoldable pub sum : List ℕ → ℕ
 sum [] = 0
 sum (x ∷ xs) = x + sum xs
 
--- One step, or several: what is added is shared, a change makes the sum grow, and no change means that all that was looked at is closed.
-pub record Grown (merged bad ar pairs pairs′ : List ℕ) (changed : Bool) (closed : Type 0) : Type 0 where
+-- One step, or several: what is added is shared, what was marked stays, a class outside `got` keeps its mask, the sum grows unless `got` is
+-- empty, and `closed` holds of what was looked at.
+pub record Grown (merged bad ar pairs pairs′ : List ℕ) (got : ℕ) (closed : Type 0) : Type 0 where
   pub long : length pairs′ ≡ length pairs
   pub words : Words pairs → Words pairs′
   pub sound : Sound merged bad ar pairs → Sound merged bad ar pairs′
-  pub same : changed ≡ false → (pairs′ ≡ pairs) × closed
-  pub more : changed ≡ true → sum pairs < sum pairs′
+  pub grew : (c b : ℕ) → rel pairs c b ≡ true → rel pairs′ c b ≡ true
+  pub others : (c : ℕ) → mem got c ≡ false → getD pairs′ c 0 ≡ getD pairs c 0
+  pub up : sum pairs ≤ sum pairs′
+  pub more : (got ≡ 0) ⊎ (sum pairs < sum pairs′)
+  pub rest : closed
+
+-- The set has every class.
+abbrev pub Full : ℕ → Type 0
+Full set = (c : ℕ) → c < 64 → mem set c ≡ true
+
+-- A change of the classes in the set gives row j nothing to add: none of its arguments is in it. The full set stands for all rows being new.
+pub record Still (merged ar : List ℕ) (set j : ℕ) : Type 0 where
+  pub part : Full set → ⊥
+  pub first : 0 < getD ar (getD merged (j * 5) 0) 0 → mem set (arg merged j 1) ≡ false
+  pub second : 1 < getD ar (getD merged (j * 5) 0) 0 → mem set (arg merged j 2) ≡ false
+  pub third : 2 < getD ar (getD merged (j * 5) 0) 0 → mem set (arg merged j 3) ≡ false
 
 -- Row j with the first n rows of the bad table.
 abbrev pub SweptTo : (merged bad ar pairs : List ℕ) → ℕ → ℕ → Type 0
@@ -66,6 +82,14 @@ SweptTo merged bad ar pairs j n = (m : ℕ) → m < n → ClosedAt merged bad ar
 -- The first n rows with every row of the bad table.
 abbrev pub PassedTo : (merged bad ar pairs : List ℕ) → ℕ → Type 0
 PassedTo merged bad ar pairs n = (j : ℕ) → j < n → SweptTo merged bad ar pairs j (length bad / 5)
+
+-- Row j has nothing to add, unless an argument of it is in the set.
+abbrev pub Rests : (merged bad ar pairs : List ℕ) → ℕ → ℕ → Type 0
+Rests merged bad ar pairs set j = Still merged ar set j → SweptTo merged bad ar pairs j (length bad / 5)
+
+-- The same of every row.
+abbrev pub AllRest : (merged bad ar pairs : List ℕ) → ℕ → Type 0
+AllRest merged bad ar pairs set = (j : ℕ) → j < length merged / 5 → Rests merged bad ar pairs set j
 
 -- Exactly the pairs that share a tree are marked.
 abbrev pub Exact : (merged bad ar pairs : List ℕ) → Type 0

@@ -1,13 +1,14 @@
 // Which classes and which states of the bad automaton share a tree: a mask for each class, filled until nothing is added.
 use sets::has;
+use sets::only;
 use sets::with;
 ghost use mathlib.Core.Path.{_≡_};
-ghost use mathlib.Core.Bool.{_||_};
+ghost use mathlib.Core.Bool.{_||_, false};
 ghost use Prim.Native.Nat.{_+_, _*_, _/_, _<_};
 ghost use lib.Dec.{leb};
 ghost use lib.ListN.{length, getD};
 ghost use Rattle.sets.specs.Sets.{mem};
-ghost use Rattle.sharing.specs.Share.{Small, rel, joins, ClosedAt, SweptTo, PassedTo, Grown, Exact, Tables};
+ghost use Rattle.sharing.specs.Share.{Small, rel, joins, ClosedAt, SweptTo, Grown, Still, Rests, AllRest, Exact, Tables};
 
 // A byte as a wide number.
 fn wide(x: u8) -> u64
@@ -83,7 +84,7 @@ fn rows_join<'a>(
     }
 }
 
-// Adds the pair of the two pairs' targets, if they join and it is not there. Whether it was added.
+// Adds the pair of the two rows' targets, if they join and it is not there. The class that got it, as a set: none, if nothing was added.
 fn visit<'a>(
     pairs: &mut [u64],
     merged: &'a [u8],
@@ -91,58 +92,111 @@ fn visit<'a>(
     ar: &'a [u8],
     j: usize,
     m: usize,
-) -> bool
+) -> u64
     requires { ⌜ (j < length (now merged) / 5) × (m < length (now bad) / 5) × (length (now pairs) ≡ 64) × Tables (now merged) (now bad) (now ar) ⌝ }
     ensures { λ r. ⌜ Grown (now (merged .entry)) (now (bad .entry)) (now (ar .entry)) (now (pairs .entry)) (now (pairs .exit)) r
-        (ClosedAt (now (merged .entry)) (now (bad .entry)) (now (ar .entry)) (now (pairs .entry)) j m) ⌝ }
+        (ClosedAt (now (merged .entry)) (now (bad .entry)) (now (ar .entry)) (now (pairs .exit)) j m) ⌝ }
 {
     if rows_join(pairs, merged, bad, ar, j, m) {
         let c = merged[j * 5 + 4] as usize;
         let b = wide(bad[m * 5 + 4]);
         let old = pairs[c];
         if has(old, b) {
-            return false;
+            return 0;
         }
         pairs[c] = with(old, b);
-        return true;
+        return only(c as u64);
     }
-    false
+    0
 }
 
-// Row j of the one table with every row of the other.
-fn sweep<'a>(pairs: &mut [u64], merged: &'a [u8], bad: &'a [u8], ar: &'a [u8], j: usize) -> bool
+// Row j of the one table with every row of the other. The class that got more, as a set.
+fn sweep<'a>(pairs: &mut [u64], merged: &'a [u8], bad: &'a [u8], ar: &'a [u8], j: usize) -> u64
     requires { ⌜ (j < length (now merged) / 5) × (length (now pairs) ≡ 64) × Tables (now merged) (now bad) (now ar) ⌝ }
     ensures { λ r. ⌜ Grown (now (merged .entry)) (now (bad .entry)) (now (ar .entry)) (now (pairs .entry)) (now (pairs .exit)) r
-        (SweptTo (now (merged .entry)) (now (bad .entry)) (now (ar .entry)) (now (pairs .entry)) j (length (now (bad .entry)) / 5)) ⌝ }
+        (Rests (now (merged .entry)) (now (bad .entry)) (now (ar .entry)) (now (pairs .exit)) r j) ⌝ }
 {
     let n = bad.len() / 5;
-    let mut changed = false;
+    let mut got: u64 = 0;
     let mut m: usize = 0;
     while m < n {
-        if visit(pairs, merged, bad, ar, j, m) {
-            changed = true;
-        }
+        let more = visit(pairs, merged, bad, ar, j, m);
+        got = got | more;
         m += 1;
     }
-    changed
+    got
 }
 
-// Every row of the one table with every row of the other.
-fn pass<'a>(pairs: &mut [u64], merged: &'a [u8], bad: &'a [u8], ar: &'a [u8]) -> bool
-    requires { ⌜ (length (now pairs) ≡ 64) × Tables (now merged) (now bad) (now ar) ⌝ }
+// Whether the p-th argument of a row, in byte i of the table, is in the set, where a symbol has n of them.
+fn touched(merged: &[u8], i: usize, set: u64, n: u8, p: u8) -> bool
+    requires { ⌜ (i < length (now merged)) × Small (now merged) ⌝ }
+    ensures { λ r. ⌜ (r ≡ false → p < n → mem set (getD (now (merged .entry)) i 0) ≡ false) ⌝ }
+{
+    if n <= p {
+        return false;
+    }
+    arg_in(merged, i, set)
+}
+
+// Every class: before the first pass, when all rows are new.
+const ALL: u64 = 18446744073709551615;
+
+// Whether row j may add something after the masks of the classes in the set grew.
+fn due<'a>(merged: &'a [u8], ar: &'a [u8], j: usize, set: u64) -> bool
+    requires { ⌜ (j < length (now merged) / 5) × Small (now merged) ⌝ }
+    ensures { λ r. ⌜ (r ≡ false → Still (now (merged .entry)) (now (ar .entry)) set j) ⌝ }
+{
+    if set == ALL {
+        return true;
+    }
+    let i = j * 5;
+    let n = arity(ar, merged[i]);
+    if touched(merged, i + 1, set, n, 0) {
+        return true;
+    }
+    if touched(merged, i + 2, set, n, 1) {
+        return true;
+    }
+    touched(merged, i + 3, set, n, 2)
+}
+
+// Row j with every row of the other table, if it may add something after the masks of the classes in the set grew.
+fn turn<'a>(
+    pairs: &mut [u64],
+    merged: &'a [u8],
+    bad: &'a [u8],
+    ar: &'a [u8],
+    j: usize,
+    set: u64,
+) -> u64
+    requires { ⌜ (j < length (now merged) / 5) × (length (now pairs) ≡ 64) × Tables (now merged) (now bad) (now ar) ⌝ }
+    requires { ⌜ Rests (now merged) (now bad) (now ar) (now pairs) set j ⌝ }
     ensures { λ r. ⌜ Grown (now (merged .entry)) (now (bad .entry)) (now (ar .entry)) (now (pairs .entry)) (now (pairs .exit)) r
-        (PassedTo (now (merged .entry)) (now (bad .entry)) (now (ar .entry)) (now (pairs .entry)) (length (now (merged .entry)) / 5)) ⌝ }
+        (Rests (now (merged .entry)) (now (bad .entry)) (now (ar .entry)) (now (pairs .exit)) r j) ⌝ }
+{
+    if due(merged, ar, j, set) {
+        return sweep(pairs, merged, bad, ar, j);
+    }
+    0
+}
+
+// Every row of the one table that may add something after the masks of the classes in `dirty` grew. The classes that got more.
+fn pass<'a>(pairs: &mut [u64], merged: &'a [u8], bad: &'a [u8], ar: &'a [u8], dirty: u64) -> u64
+    requires { ⌜ (length (now pairs) ≡ 64) × Tables (now merged) (now bad) (now ar) × AllRest (now merged) (now bad) (now ar) (now pairs) dirty ⌝ }
+    ensures { λ r. ⌜ Grown (now (merged .entry)) (now (bad .entry)) (now (ar .entry)) (now (pairs .entry)) (now (pairs .exit)) r
+        (AllRest (now (merged .entry)) (now (bad .entry)) (now (ar .entry)) (now (pairs .exit)) r) ⌝ }
 {
     let n = merged.len() / 5;
-    let mut changed = false;
+    let mut live = dirty;
+    let mut got: u64 = 0;
     let mut j: usize = 0;
     while j < n {
-        if sweep(pairs, merged, bad, ar, j) {
-            changed = true;
-        }
+        let more = turn(pairs, merged, bad, ar, j, live);
+        live = live | more;
+        got = got | more;
         j += 1;
     }
-    changed
+    got
 }
 
 pub struct Marked {
@@ -155,9 +209,9 @@ pub fn share<'a>(merged: &'a [u8], bad: &'a [u8], ar: &'a [u8]) -> Marked
     ensures { λ r. ⌜ Exact (now (merged .entry)) (now (bad .entry)) (now (ar .entry)) (r .pairs) ⌝ }
 {
     let mut pairs = [0u64; 64];
-    let mut more = true;
-    while more {
-        more = pass(&mut pairs, merged, bad, ar);
+    let mut dirty = ALL;
+    while dirty != 0 {
+        dirty = pass(&mut pairs, merged, bad, ar, dirty);
     }
     Marked { pairs }
 }

@@ -1,5 +1,7 @@
-pub mod Matrix
-pub mod Gathering
-pub mod Standing
 pub mod Spanned
-pub mod Settled
+pub mod Rows
+pub mod Gathering
+pub mod Blocks
+pub mod Standing
+pub mod Keeping
+pub mod Valuing

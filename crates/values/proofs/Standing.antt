@@ -1,40 +1,71 @@
 -- A term among the tokens, taken apart as the code reads it, and its value put together again.
-use mathlib.Core.Path.{_≡_, refl, sym, ap, _∙_}
+use mathlib.Core.Path.{_≡_, refl, sym, ap, ap₂, _∙_, subst}
 use mathlib.Core.Bool.{cond}
+use mathlib.Core.Logic.{inl, inr, ⊎-elim}
 use mathlib.Core.List.{List, [], _∷_, _++_, map, append-assoc}
-use Prim.Native.Nat.{ℕ, suc, _+_, _-_, _≤_, _<_}
+use Prim.Native.Nat.{ℕ, zero, suc, _+_, _-_, _*_, _≤_, _<_}
 use native.Mathlib.Numerals.{add-one}
+use native.Mathlib.Decide.{decLt}
 use native.Mathlib.Omega.{arith}
-use lib.ListN.{length, getD, drop, length-append, length-map, length-drop}
-use lib.Seq.{drop-cons}
+use lib.ListN.{length, getD, take, drop, length-append, length-map, length-drop}
+use lib.Seq.{drop-cons, drop-drop, drop-append-seam}
 use borrow.Author.Tests.{lt-ltb, le-ltb}
 use Rattle.theory.specs.Term.{Term, Terms, var, node, none, _then_}
 use Rattle.theory.specs.Preorder.{Token, symbol, variable, preorder, preorderAll, Ranked, RankedRow, ranked-variable, ranked-symbol, no-more, one-more}
 use Rattle.theory.specs.Automaton.{Transition}
 use Rattle.sets.specs.Sets.{Set}
 use Rattle.tables.specs.Held.{tokenOf}
+use Rattle.woven.specs.Woven.{wovenMoves}
 use Rattle.values.specs.Sets.{gathered, spanned, spannedAll}
-use Rattle.values.specs.Lanes.{lane, setsOf}
-use Rattle.values.specs.Standing.{Spells, SpellsRow, Stands, Valued}
+use Rattle.values.specs.Lanes.{lane, blockOf, given}
+use Rattle.values.specs.Rows.{Within, Gathered}
+use Rattle.values.specs.Standing.{Each, EachRow, one, over, _beside_, Spells, SpellsRow, Stands, Valued}
+use Rattle.values.proofs.Blocks.{Same, block-same, given-same, same-wider, same-within, same-then, block-symbol, block-variable, block-where}
 
 pub some-token : (t : Term ℕ) → 1 ≤ length (preorder t)
 unfolding preorder
 some-token (var x) = omega arith
 some-token (node f ts) = omega arith
 
+map-drop : (n : ℕ) (l : List ℕ) → map tokenOf (drop n l) ≡ drop n (map tokenOf l)
+map-drop zero l = refl
+map-drop (suc n) [] = refl
+map-drop (suc n) (x ∷ l) = map-drop n l
+
+-- What stands behind a term.
+pub behind : {arities tokens : List ℕ} {at : ℕ} {t : Term ℕ} {rest : List Token} → Spells arities tokens at t rest → map tokenOf (drop (at + length (preorder t)) tokens) ≡ rest
+behind {tokens = tokens} {at = at} {t = t} {rest = rest} s =
+    ap (map tokenOf) (sym (drop-drop (length (preorder t)) at tokens))
+    ∙ map-drop (length (preorder t)) (drop at tokens)
+    ∙ ap (drop (length (preorder t))) (s .reads)
+    ∙ drop-append-seam (preorder t) rest
+
+-- The variables of a term are those of its subterms.
+pub each-variable : {P : ℕ → Type 0} {x : ℕ} → Each P (var x) → P x
+each-variable (one p) = p
+
+each-over : {P : ℕ → Type 0} {f : ℕ} {ts : Terms ℕ} → Each P (node f ts) → EachRow P ts
+each-over (over r) = r
+
+each-first : {P : ℕ → Type 0} {t : Term ℕ} {ts : Terms ℕ} → EachRow P (t then ts) → Each P t × EachRow P ts
+each-first (e beside r) = (e, r)
+
+module _ {arities tokens : List ℕ} {at : ℕ} where
+  -- A term stands within the tokens.
+  pub spelled-inside : {t : Term ℕ} {rest : List Token} → Spells arities tokens at t rest → at < length tokens
+  spelled-inside {t = t} {rest = rest} s =
+      omega (arith, ap length (s .reads), length-append (preorder t) rest, some-token t, length-map (drop at tokens) tokenOf, length-drop at tokens)
+
+  pub inside : Stands arities tokens at → at < length tokens
+  inside s = spelled-inside (s .spells)
+
+  -- And within their room.
+  pub within-room : Stands arities tokens at → at < 48
+  within-room s = omega (arith, s .room, some-token (s .term))
+
 module _ (arities tokens : List ℕ) where
   abbrev from : ℕ → List Token
   from at = map tokenOf (drop at tokens)
-
-  -- A term stands within the tokens.
-  pub inside : (at : ℕ) → Stands arities tokens at → at < length tokens
-  inside at s =
-      let e = ap length (s .spells .reads) in
-      omega (arith, e, length-append (preorder (s .term)) (s .rest), some-token (s .term), length-map (drop at tokens) tokenOf, length-drop at tokens)
-
-  -- And within their room.
-  pub within-room : (at : ℕ) → Stands arities tokens at → at < 1536
-  within-room at s = omega (arith, s .room, some-token (s .term))
 
   first-token : (at : ℕ) → at < length tokens → from at ≡ tokenOf (getD tokens at 0) ∷ from (at + 1)
   first-token at h = ap (map tokenOf) (drop-cons tokens at 0 h) ∙ ap (λ n. tokenOf (getD tokens at 0) ∷ from n) (sym (add-one at))
@@ -52,15 +83,6 @@ module _ (arities tokens : List ℕ) where
 
     pub variable-here : (t : Term ℕ) (rest : List Token) → Spells arities tokens at t rest → (t ≡ var (getD tokens at 0 - 64)) × (from (at + 1) ≡ rest)
     variable-here t rest s = taken-variable t rest (ap (λ x. x ∷ from (at + 1)) (sym is-argument) ∙ sym (first-token at h) ∙ s .reads)
-
-    pub variable-valued : (Δ : List Transition) (codes m : List ℕ) → ((j : ℕ) → j < 64 → lane j m ≡ setsOf codes j (getD tokens at 0 - 64)) → Valued Δ arities codes tokens at m (at + 1)
-    unfolding spanned preorder
-    variable-valued Δ codes m e = record {
-      value = λ t rest s j hj. e j hj ∙ ap (spanned Δ (setsOf codes j)) (sym (variable-here t rest s .0));
-      rest = λ t rest s. variable-here t rest s .1;
-      end = λ t rest s. ap (λ t. at + length (preorder t)) (sym (variable-here t rest s .0));
-      forward = omega arith;
-    }
 
   -- A symbol, and the row of its subterms.
   pub record Node (at f : ℕ) (t : Term ℕ) (rest : List Token) : Type 0 where
@@ -84,6 +106,16 @@ module _ (arities tokens : List ℕ) where
     pub symbol-here : (t : Term ℕ) (rest : List Token) → Spells arities tokens at t rest → Node at (getD tokens at 0) t rest
     symbol-here t rest s = taken-symbol rest (s .ranked) (ap (λ x. x ∷ from (at + 1)) (sym is-function) ∙ sym (first-token at h) ∙ s .reads)
 
+  -- A term over the four variables has its block in the room of all blocks.
+  pub block-room : (at : ℕ) → Stands arities tokens at → blockOf tokens at < 52
+  block-room at s = elim (decLt (getD tokens at 0) 64) [
+    | yes h ↦ omega (arith, block-symbol tokens at h, within-room s)
+    | no n ↦
+        let hv : 64 ≤ getD tokens at 0 = omega arith in
+        let four = each-variable (subst (Each (λ x. x < 4)) (variable-here at (inside s) hv (s .term) (s .rest) (s .spells) .0) (s .four)) in
+        omega (arith, block-variable tokens at hv, four)
+  ]
+
   -- A row without terms, and the first term of a row.
   pub no-terms : {ts : Terms ℕ} {n : ℕ} → RankedRow arities ts n → n ≡ 0 → ts ≡ none
   no-terms (no-more e) h = refl
@@ -103,19 +135,28 @@ module _ (arities tokens : List ℕ) where
       let same : k ≡ n = omega arith in
       record { term = t; others = ts; same = refl; spells = record { ranked = r; reads = reads ∙ append-assoc (preorder t) (preorderAll ts) rest }; ranked = rw same at rs }
 
-  first-here : (at n : ℕ) (ts : Terms ℕ) (rest : List Token) → SpellsRow arities tokens at (suc n) ts rest → First at n ts rest
+  pub first-here : (at n : ℕ) (ts : Terms ℕ) (rest : List Token) → SpellsRow arities tokens at (suc n) ts rest → First at n ts rest
   first-here at n ts rest s = taken-first at n rest (s .ranked) refl (s .reads)
 
-  -- Some row of n terms stands at a place.
+  -- Some row of n terms over the four variables stands at a place.
   pub record StandsRow (at n : ℕ) : Type 0 where
     pub row : Terms ℕ
     pub behind : List Token
     pub spells : SpellsRow arities tokens at n row behind
-    pub room : at + length (preorderAll row) ≤ 1536
+    pub room : at + length (preorderAll row) ≤ 48
+    pub four : EachRow (λ x. x < 4) row
 
   pub subterms : (at n : ℕ) → Stands arities tokens at → getD tokens at 0 < 64 → getD arities (getD tokens at 0) 0 ≡ n → StandsRow (at + 1) n
   unfolding preorder
-  subterms at n s hs e = let w = symbol-here at (inside at s) hs (s .term) (s .rest) (s .spells) in record { row = w .row; behind = s .rest; spells = rw e at (w .spells); room = omega (arith, s .room, ap (λ t. length (preorder t)) (w .same)) }
+  subterms at n s hs e =
+      let w = symbol-here at (inside s) hs (s .term) (s .rest) (s .spells) in
+      record {
+        row = w .row;
+        behind = s .rest;
+        spells = rw e at (w .spells);
+        room = omega (arith, s .room, ap (λ t. length (preorder t)) (w .same));
+        four = each-over (subst (Each (λ x. x < 4)) (w .same) (s .four));
+      }
 
   first-in : (at n : ℕ) → 0 < n → (s : StandsRow at n) → First at (n - 1) (s .row) (s .behind)
   first-in at n h s = taken-first at (n - 1) (s .behind) (s .spells .ranked) (omega arith) (s .spells .reads)
@@ -123,64 +164,136 @@ module _ (arities tokens : List ℕ) where
   -- The first of some terms stands at the row's place.
   pub first-stands : (at n : ℕ) → 0 < n → StandsRow at n → Stands arities tokens at
   unfolding preorder
-  first-stands at n h s = let w = first-in at n h s in record { term = w .term; rest = preorderAll (w .others) ++ s .behind; spells = w .spells; room = omega (arith, s .room, ap (λ us. length (preorderAll us)) (w .same), length-append (preorder (w .term)) (preorderAll (w .others))) }
-
-  -- The others stand behind it.
-  pub others-behind : (at n next : ℕ) → 0 < n → ((t : Term ℕ) (rest : List Token) → Spells arities tokens at t rest → (from next ≡ rest) × (next ≡ at + length (preorder t))) → StandsRow at n → StandsRow next (n - 1)
-  unfolding preorder
-  others-behind at n next h after s =
+  first-stands at n h s =
       let w = first-in at n h s in
-      let (reads, end) = after (w .term) (preorderAll (w .others) ++ s .behind) (w .spells) in
       record {
-        row = w .others;
-        behind = s .behind;
-        spells = record { ranked = w .ranked; reads = reads };
-        room = omega (arith, s .room, end, ap (λ us. length (preorderAll us)) (w .same), length-append (preorder (w .term)) (preorderAll (w .others)));
+        term = w .term;
+        rest = preorderAll (w .others) ++ s .behind;
+        spells = w .spells;
+        room = omega (arith, s .room, ap (λ us. length (preorderAll us)) (w .same), length-append (preorder (w .term)) (preorderAll (w .others)));
+        four = each-first (subst (EachRow (λ x. x < 4)) (w .same) (s .four)) .0;
       }
 
-  module _ (Δ : List Transition) (codes : List ℕ) where
-    -- So do they behind a term that is valued.
-    pub others-stand : (at n : ℕ) (m : List ℕ) (next : ℕ) → 0 < n → Valued Δ arities codes tokens at m next → StandsRow at n → StandsRow next (n - 1)
-    others-stand at n m next h v = others-behind at n next h (λ t rest w. (v .rest t rest w, v .end t rest w))
+  module _ (Δ : List Transition) (k : ℕ) where
+    -- The others stand behind it, where it is valued.
+    pub others-stand : {at n : ℕ} {m after : List (List ℕ)} {next : ℕ} → 0 < n → Valued Δ arities tokens k m at after next → StandsRow at n → StandsRow next (n - 1)
+    unfolding preorder
+    others-stand {at = at} {n = n} h v s =
+        let w = first-in at n h s in
+        record {
+          row = w .others;
+          behind = s .behind;
+          spells = record { ranked = w .ranked; reads = v .rest (w .term) _ (w .spells) };
+          room = omega (arith, s .room, v .end (w .term) _ (w .spells), ap (λ us. length (preorderAll us)) (w .same), length-append (preorder (w .term)) (preorderAll (w .others)));
+          four = each-first (subst (EachRow (λ x. x < 4)) (w .same) (s .four)) .1;
+        }
 
-    -- The row of n terms at a place has the values ss in lane j, and `next` is the place after it.
-    pub record RowValued (j at n : ℕ) (ss : List Set) (next : ℕ) : Type 0 where
-      pub values : (ts : Terms ℕ) (rest : List Token) → SpellsRow arities tokens at n ts rest → ss ≡ spannedAll Δ (setsOf codes j) ts
-      pub after : (ts : Terms ℕ) (rest : List Token) → SpellsRow arities tokens at n ts rest → from next ≡ rest
+    -- A term that is valued ends within the room.
+    pub valued-room : {at : ℕ} {m after : List (List ℕ)} {next : ℕ} → Stands arities tokens at → Valued Δ arities tokens k m at after next → next ≤ 48
+    valued-room s v = omega (arith, s .room, v .end (s .term) (s .rest) (s .spells))
+
+    -- The row of n terms at a place is valued: each has its value in one of the blocks bs, and `next` is the place after them.
+    pub record RowValued (m : List (List ℕ)) (at n : ℕ) (bs : List ℕ) (after : List (List ℕ)) (next : ℕ) : Type 0 where
+      pub values : (ts : Terms ℕ) (rest : List Token) → SpellsRow arities tokens at n ts rest → (l : ℕ) → l < 512
+          → (later : List (List ℕ)) → Same k 0 at after later → map (λ a. lane k later a l) bs ≡ spannedAll Δ (given k m l) ts
+      pub rest : (ts : Terms ℕ) (rest : List Token) → SpellsRow arities tokens at n ts rest → from next ≡ rest
       pub end : (ts : Terms ℕ) (rest : List Token) → SpellsRow arities tokens at n ts rest → next ≡ at + length (preorderAll ts)
+      pub forward : at ≤ next
+      pub room : next ≤ 48
+      pub long : length after ≡ length m
+      pub outside : Same k at next m after
 
-    pub row-none : (j at : ℕ) → RowValued j at 0 [] at
-    unfolding spanned preorder
-    row-none j at = record {
-      values = λ ts rest s. sym (ap (spannedAll Δ (setsOf codes j)) (no-terms (s .ranked) refl));
-      after = λ ts rest s. s .reads ∙ ap (λ us. preorderAll us ++ rest) (no-terms (s .ranked) refl);
-      end = λ ts rest s. omega (arith, ap (λ us. length (preorderAll us)) (no-terms (s .ranked) refl));
-    }
+-- A variable's set is in its own block.
+pub variable-valued : {Δ : List Transition} {arities tokens : List ℕ} {k : ℕ} {m : List (List ℕ)} {at : ℕ} → Stands arities tokens at → 64 ≤ getD tokens at 0 → Valued Δ arities tokens k m at m (at + 1)
+unfolding spanned preorder given
+variable-valued {Δ = Δ} {arities = arities} {tokens = tokens} {k = k} {m = m} {at = at} s hv = record {
+  value = λ t rest w l hl.
+      let block : blockOf tokens at ≡ 48 + (getD tokens at 0 - 64) = omega (arith, block-variable tokens at hv) in
+      ap (λ b. lane k m (b * k) l) block ∙ ap (spanned Δ (given k m l)) (sym (is t rest w .0));
+  rest = λ t rest w. is t rest w .1;
+  end = λ t rest w. ap (λ t. at + length (preorder t)) (sym (is t rest w .0));
+  forward = omega arith;
+  long = refl;
+  outside = λ i w. refl;
+}
+  where
+    is : (t : Term ℕ) (rest : List Token) → Spells arities tokens at t rest → (t ≡ var (getD tokens at 0 - 64)) × (map tokenOf (drop (at + 1) tokens) ≡ rest)
+    is = variable-here arities tokens at (inside s) hv
 
-    pub row-more : (j at n : ℕ) (m : List ℕ) (second : ℕ) (ss : List Set) (next : ℕ) → j < 64 → Valued Δ arities codes tokens at m second → RowValued j second n ss next → RowValued j at (suc n) (lane j m ∷ ss) next
+-- No term, and one term before others.
+module _ {arities tokens : List ℕ} {Δ : List Transition} {k : ℕ} where
+  pub row-none : {m : List (List ℕ)} {at : ℕ} → at ≤ 48 → RowValued arities tokens Δ k m at 0 [] m at
+  unfolding spanned preorder
+  row-none {m = m} h = record {
+    values = λ ts rest s l hl later e. sym (ap (spannedAll Δ (given k m l)) (no-terms arities tokens (s .ranked) refl));
+    rest = λ ts rest s. s .reads ∙ ap (λ us. preorderAll us ++ rest) (no-terms arities tokens (s .ranked) refl);
+    end = λ ts rest s. omega (arith, ap (λ us. length (preorderAll us)) (no-terms arities tokens (s .ranked) refl));
+    forward = omega arith;
+    room = h;
+    long = refl;
+    outside = λ i w. refl;
+  }
+
+  module _ {m : List (List ℕ)} {at n : ℕ} {mid : List (List ℕ)} {second : ℕ} {bs : List ℕ} {after : List (List ℕ)} {next : ℕ}
+      (v : Valued Δ arities tokens k m at mid second) (r : RowValued arities tokens Δ k mid second n bs after next) where
+    left : {ts : Terms ℕ} {rest : List Token} (w : First arities tokens at n ts rest) → SpellsRow arities tokens second n (w .others) rest
+    left w = record { ranked = w .ranked; reads = v .rest (w .term) _ (w .spells) }
+
+    -- The first term's block is none of those that change later.
+    first-stays : (l : ℕ) (later : List (List ℕ)) → Same k 0 at after later → lane k later (blockOf tokens at * k) l ≡ lane k mid (blockOf tokens at * k) l
+    first-stays l later e =
+        let place = block-where tokens at in
+        block-same k 0 at after later e (blockOf tokens at) l (⊎-elim (λ w. inr (omega arith)) (λ w. inr (omega (arith, v .forward, r .forward, r .room))) place)
+        ∙ block-same k second next mid after (r .outside) (blockOf tokens at) l (⊎-elim (λ w. inl (omega (arith, v .forward))) (λ w. inr (omega (arith, r .room))) place)
+
+    pub row-more : RowValued arities tokens Δ k m at (suc n) (blockOf tokens at * k ∷ bs) after next
     unfolding spanned preorder
-    row-more j at n m second ss next hj v r = record {
-      values = λ ts rest s.
-          let w = first-here at n ts rest s in
-          (λ i. v .value (w .term) _ (w .spells) j hj i ∷ r .values (w .others) rest (left w) i) ∙ ap (spannedAll Δ (setsOf codes j)) (sym (w .same));
-      after = λ ts rest s. let w = first-here at n ts rest s in r .after (w .others) rest (left w);
+    row-more = record {
+      values = λ ts rest s l hl later e.
+          let w = first-here arities tokens at n ts rest s in
+          ap₂ _∷_ (first-stays l later e ∙ v .value (w .term) _ (w .spells) l hl)
+          (r .values (w .others) rest (left w) l hl later (same-wider k 0 at after later e 0 second (omega arith) (omega (arith, v .forward)))
+          ∙ ap (λ ρ. spannedAll Δ ρ (w .others)) (given-same k at second m mid (v .outside) (omega (arith, r .forward, r .room)) l))
+          ∙ ap (spannedAll Δ (given k m l)) (sym (w .same));
+      rest = λ ts rest s. let w = first-here arities tokens at n ts rest s in r .rest (w .others) rest (left w);
       end = λ ts rest s.
-          let w = first-here at n ts rest s in
+          let w = first-here arities tokens at n ts rest s in
           omega (arith, r .end (w .others) rest (left w), v .end (w .term) _ (w .spells), ap (λ us. length (preorderAll us)) (w .same), length-append (preorder (w .term)) (preorderAll (w .others)));
+      forward = omega (arith, v .forward, r .forward);
+      room = r .room;
+      long = r .long ∙ v .long;
+      outside = same-then k at next m mid after
+          (same-wider k at second m mid (v .outside) at next (omega arith) (r .forward))
+          (same-wider k second next mid after (r .outside) at next (omega (arith, v .forward)) (omega arith));
     }
-      where
-        left : {ts : Terms ℕ} {rest : List Token} (w : First at n ts rest) → SpellsRow arities tokens second n (w .others) rest
-        left w = record { ranked = w .ranked; reads = v .rest (w .term) _ (w .spells) }
 
-    -- A symbol over a row that is valued.
-    pub symbol-valued : (at n : ℕ) (m : List ℕ) (ss : ℕ → List Set) (next : ℕ) → Stands arities tokens at → getD tokens at 0 < 64 → getD arities (getD tokens at 0) 0 ≡ n → at < next
-        → ((j : ℕ) → j < 64 → RowValued j (at + 1) n (ss j) next) → ((j : ℕ) → j < 64 → lane j m ≡ gathered Δ (getD tokens at 0) (ss j)) → Valued Δ arities codes tokens at m next
-    unfolding spanned preorder
-    symbol-valued at n m ss next s hs arity forward rows e = record {
-      value = λ t rest w j hj.
-          let here = symbol-here at (inside at s) hs t rest w in
-          e j hj ∙ ap (gathered Δ (getD tokens at 0)) (rows j hj .values (here .row) rest (rw arity at (here .spells))) ∙ ap (spanned Δ (setsOf codes j)) (sym (here .same));
-      rest = λ t rest w. let here = symbol-here at (inside at s) hs t rest w in rows 0 (omega arith) .after (here .row) rest (rw arity at (here .spells));
-      end = λ t rest w. let here = symbol-here at (inside at s) hs t rest w in omega (arith, rows 0 (omega arith) .end (here .row) rest (rw arity at (here .spells)), ap (λ t. length (preorder t)) (here .same));
-      forward = forward;
-    }
+-- The transitions of the words by symbol.
+abbrev pub moves : (arities words heads : List ℕ) → List Transition
+moves arities words heads = wovenMoves arities words (getD heads 64 0)
+
+-- A symbol over a row that is valued: its block is cleared and its words are gathered into it.
+module _ {arities tokens words heads : List ℕ} {k : ℕ} {m : List (List ℕ)} {at n : ℕ} {bs kids : List ℕ} {mid clear after : List (List ℕ)} {next : ℕ} where
+  pub symbol-valued : Stands arities tokens at → getD tokens at 0 < 64 → getD arities (getD tokens at 0) 0 ≡ n → ((g : ℕ → Set) → take n (map g kids) ≡ map g bs)
+      → RowValued arities tokens (moves arities words heads) k m (at + 1) n bs mid next → Within k mid (at * k) clear → Gathered arities words heads (getD tokens at 0) n k clear kids (at * k) after
+      → Valued (moves arities words heads) arities tokens k m at after next
+  unfolding spanned preorder
+  symbol-valued s hs arity pick r w g = record {
+    value = λ t rest e l hl.
+        let here = symbol-here arities tokens at (inside s) hs t rest e in
+        ap (λ b. lane k after (b * k) l) (block-symbol tokens at hs)
+        ∙ g .value arity l hl
+        ∙ ap (gathered (moves arities words heads) (getD tokens at 0))
+        (pick (λ a. lane k clear a l)
+        ∙ r .values (here .row) rest (rw arity at (here .spells)) l hl clear (same-wider k at (at + 1) mid clear (same-within k at mid clear w) 0 (at + 1) (omega arith) (omega arith)))
+        ∙ ap (spanned (moves arities words heads) (given k m l)) (sym (here .same));
+    rest = λ t rest e. let here = symbol-here arities tokens at (inside s) hs t rest e in r .rest (here .row) rest (rw arity at (here .spells));
+    end = λ t rest e.
+        let here = symbol-here arities tokens at (inside s) hs t rest e in
+        omega (arith, r .end (here .row) rest (rw arity at (here .spells)), ap (λ t. length (preorder t)) (here .same));
+    forward = omega (arith, r .forward);
+    long = g .within .long ∙ w .long ∙ r .long;
+    outside = same-then k at next m mid after (same-wider k (at + 1) next m mid (r .outside) at next (omega arith) (omega arith)) filled;
+  }
+    where
+      filled : Same k at next mid after
+      filled = same-wider k at (at + 1) mid after (same-then k at (at + 1) mid clear after (same-within k at mid clear w) (same-within k at clear after (g .within))) at next (omega arith) (r .forward)

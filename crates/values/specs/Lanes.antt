@@ -1,26 +1,24 @@
--- Sixty-four values at once. A matrix has a word for each class q, and bit j of it says whether q is in the value in lane j: so lane j of the matrix is a set of classes.
-use mathlib.Core.Path.{_≡_}
-use mathlib.Core.Bool.{cond}
-use mathlib.Core.List.{List}
-use Prim.Native.Nat.{ℕ, _+_, _/_, _%_}
-use lib.Dec.{eqb, ltb}
-use lib.ListN.{length, getD}
-use Rattle.sets.specs.Sets.{Set, mem, none, plus, under}
+-- Values in 512 lanes at once. A block has a row for each class q below k, a row has eight words of 64 lanes, and lane l of row q says whether q is in the value in lane l:
+-- so a lane of a block is a set of classes. All blocks of a rule lie in one list of rows, k rows to a block: those of its 48 tokens, and behind them those of the four variables.
+use mathlib.Core.Bool.{Bool, cond, _&&_}
+use mathlib.Core.List.{List, []}
+use Prim.Native.Nat.{ℕ, _+_, _-_, _*_, _/_, _%_}
+use lib.Dec.{ltb}
+use lib.ListN.{getD}
+use Rattle.sets.specs.Sets.{Set, mem}
 
--- Lane j of a matrix.
-abbrev pub lane : ℕ → List ℕ → Set
-lane j m q = mem (getD m q 0) j
+-- Lane l of a row.
+abbrev pub lit : List ℕ → ℕ → Bool
+lit row l = mem (getD row (l / 64) 0) (l % 64)
 
--- A matrix of 64 rows with nothing in any lane.
-pub record Blank (m : List ℕ) : Type 0 where
-  pub long : length m ≡ 64
-  pub zero : (q : ℕ) → getD m q 0 ≡ 0
+-- Lane l of the block whose first row is a.
+abbrev pub lane : (k : ℕ) → List (List ℕ) → (a l : ℕ) → Set
+lane k m a l q = ltb q k && lit (getD m (a + q) []) l
 
--- The set of a variable in lane j, by its code: below 64 that class; 64 the class j; 66 the class that is the lane's place in its half, the lanes below 32 and those from 32 on;
--- from 128 on the class that is so much above 128, and in the upper half the next one; else any class.
-unfoldable pub codeSet : ℕ → ℕ → Set
-codeSet x j = cond (ltb x 64) (plus none x) (cond (eqb x 64) (plus none j) (cond (eqb x 66) (plus none (j % 32)) (cond (ltb x 128) (under 64) (plus none ((x + j / 32) % 64)))))
+-- Which block has the value of the term at a place: the place's own, or its variable's.
+unfoldable pub blockOf : List ℕ → ℕ → ℕ
+blockOf tokens at = cond (ltb (getD tokens at 0) 64) at (getD tokens at 0 - 16)
 
--- The sets of the variables in lane j; a variable without a code has the class 0.
-unfoldable pub setsOf : List ℕ → ℕ → ℕ → Set
-setsOf codes j x = codeSet (getD codes x 0) j
+-- The sets that the variables have in lane l.
+unfoldable pub given : (k : ℕ) → List (List ℕ) → ℕ → ℕ → Set
+given k m l x = lane k m ((48 + x) * k) l

@@ -1,4 +1,4 @@
 pub mod Sets
 pub mod Lanes
+pub mod Rows
 pub mod Standing
-pub mod Settled

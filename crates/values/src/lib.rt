@@ -1,28 +1,18 @@
-// The value of a term in 64 lanes at once: a matrix has a word for each class, whose bit j says whether the class is in the value in lane j.
-use sets::has;
-use sets::minus;
-use sets::only;
+// The value of a term in 512 lanes at once, in blocks of rows: see specs/Lanes.
 ghost use mathlib.Core.Path.{_≡_};
-ghost use mathlib.Core.List.{List, [], _∷_};
-ghost use Prim.Native.Nat.{ℕ, _≤_, _<_};
-ghost use lib.ListN.{length, getD, take};
-ghost use Rattle.sets.specs.Sets.{mem, under};
-ghost use Rattle.woven.specs.Woven.{part, wovenMoves, Indexed};
-ghost use Rattle.values.specs.Sets.{drawn, gathered};
-ghost use Rattle.values.specs.Lanes.{lane, Blank, codeSet};
-ghost use Rattle.values.specs.Standing.{Stands, Valued};
-ghost use Rattle.values.specs.Settled.{Settled, endAt};
+ghost use mathlib.Core.Bool.{_||_, _&&_};
+ghost use mathlib.Core.List.{List, []};
+ghost use Prim.Native.Nat.{ℕ, _+_, _*_, _≤_, _<_};
+ghost use lib.ListN.{length, getD};
+ghost use Rattle.woven.specs.Woven.{part, wovenMoves};
+ghost use Rattle.values.specs.Lanes.{lit, lane, blockOf};
+ghost use Rattle.values.specs.Rows.{allLit, PutIn, Room, Blank, Within, Gatherable, Gathered};
+ghost use Rattle.values.specs.Standing.{Kept, Keepable, Noted, Valuable, Valued};
+
+// The variables' blocks come behind those of the 48 tokens.
+pub const VARIABLES: usize = 48;
 
 const ALL: u64 = 18446744073709551615;
-
-// The lower half of the lanes.
-pub const LOWER: u64 = 4294967295;
-
-// The code of a variable whose class is its lane's place in its half.
-pub const HALF: u8 = 66;
-
-// The code of a variable with the class 0 in the lower half and 1 in the upper half.
-pub const TWO: u8 = 128;
 
 // A byte as a place.
 fn place(x: u8) -> usize
@@ -31,28 +21,21 @@ fn place(x: u8) -> usize
     x as usize
 }
 
-// The arity of the symbol f, and 0 where it is not among the first `symbols`.
-pub fn arity(arities: &[u8; 64], symbols: usize, f: u8) -> u8
-    requires { ⌜ f < 64 ⌝ }
-    ensures { λ r. ⌜ r ≡ getD (take symbols (now (arities .entry))) f 0 ⌝ }
+// The arity of the symbol f, and 0 where it is not listed.
+fn arity(arities: &[u8], f: u8) -> u8
+    ensures { λ r. ⌜ r ≡ getD (now (arities .entry)) f 0 ⌝ }
 {
     let i = place(f);
-    if i < symbols { arities[i] } else { 0 }
+    if i < arities.len() { arities[i] } else { 0 }
 }
 
-// The code of the variable i, and 0 where there is none.
-fn code_of(codes: &[u8; 4], i: usize) -> u8
-    requires { ⌜ length (now codes) ≡ 4 ⌝ }
-    ensures { λ r. ⌜ r ≡ getD (now (codes .entry)) i 0 ⌝ }
+// Which block has the value of the term at a place.
+pub fn block_of(tokens: &[u8], at: usize) -> usize
+    requires { ⌜ at < length (now tokens) ⌝ }
+    ensures { λ r. ⌜ r ≡ blockOf (now (tokens .entry)) at ⌝ }
 {
-    if i < 4 { codes[i] } else { 0 }
-}
-
-// Where the settled term at place i of a side ends, and 0 where none begins there.
-fn end_at(ends: &[u8; 24], i: usize) -> u8
-    ensures { λ r. ⌜ r ≡ endAt (now (ends .entry)) i ⌝ }
-{
-    if i < 24 { ends[i] } else { 0 }
+    let token = place(tokens[at]);
+    if token < 64 { at } else { token - 16 }
 }
 
 // The number in byte i of a word.
@@ -63,249 +46,218 @@ fn part_of(w: u64, i: u64) -> usize
     ((w >> (8 * i)) % 64) as usize
 }
 
-// The lanes in which the first n arguments of a word are in the values a, b and c.
-fn drawn_lanes<'a>(w: u64, n: u8, a: &'a [u64; 64], b: &'a [u64; 64], c: &'a [u64; 64]) -> u64
-    requires { ⌜ (1 ≤ n) × (n ≤ 3) ⌝ }
-    ensures { λ r. ⌜ ((j : ℕ) → mem r j ≡ drawn (take n (lane j (now (a .entry)) ∷ (lane j (now (b .entry)) ∷ (lane j (now (c .entry)) ∷ [])))) (take n (part w 0 ∷ (part w 1 ∷ (part w 2 ∷ []))))) ⌝ }
+// The row s with the lanes of one other, or with those that two or three others have in common.
+// Each loop has a fixed count, so that it becomes a few vector operations.
+fn join1(s: [u64; 8], a: [u64; 8]) -> [u64; 8]
+    ensures { λ r. ⌜ ((l : ℕ) → l < 512 → lit r l ≡ (lit s l || lit a l)) ⌝ }
 {
-    let x = part_of(w, 0);
-    if n == 1 {
-        return a[x];
+    let mut r = [0u64; 8];
+    let mut y = 0;
+    while y < 8 {
+        r[y] = s[y] | a[y];
+        y += 1;
     }
-    let y = part_of(w, 1);
-    if n == 2 {
-        return a[x] & b[y];
-    }
-    let z = part_of(w, 2);
-    a[x] & (b[y] & c[z])
+    r
 }
 
-// In each lane, every class that some word of f gives for arguments drawn from that lane of the first n of a, b and c.
+fn join2(s: [u64; 8], a: [u64; 8], b: [u64; 8]) -> [u64; 8]
+    ensures { λ r. ⌜ ((l : ℕ) → l < 512 → lit r l ≡ (lit s l || (lit a l && lit b l))) ⌝ }
+{
+    let mut r = [0u64; 8];
+    let mut y = 0;
+    while y < 8 {
+        r[y] = s[y] | a[y] & b[y];
+        y += 1;
+    }
+    r
+}
+
+fn join3(s: [u64; 8], a: [u64; 8], b: [u64; 8], c: [u64; 8]) -> [u64; 8]
+    ensures { λ r. ⌜ ((l : ℕ) → l < 512 → lit r l ≡ (lit s l || (lit a l && (lit b l && lit c l)))) ⌝ }
+{
+    let mut r = [0u64; 8];
+    let mut y = 0;
+    while y < 8 {
+        r[y] = s[y] | a[y] & (b[y] & c[y]);
+        y += 1;
+    }
+    r
+}
+
+// The row s with the lanes in which the first n arguments of the word w are in the blocks of `kids`.
+fn gain(n: u8, w: u64, s: [u64; 8], m: &[[u64; 8]], kids: [usize; 3]) -> [u64; 8]
+    requires { ⌜ (1 ≤ n) × (n ≤ 3) × ((j : ℕ) → j < n → getD kids j 0 + part w j < length (now m)) ⌝ }
+    ensures { λ r. ⌜ ((l : ℕ) → l < 512 → lit r l ≡ (lit s l || allLit (now (m .entry)) n w kids l)) ⌝ }
+{
+    let a = kids[0] + part_of(w, 0);
+    if n == 1 {
+        return join1(s, m[a]);
+    }
+    let b = kids[1] + part_of(w, 1);
+    if n == 2 {
+        return join2(s, m[a], m[b]);
+    }
+    let c = kids[2] + part_of(w, 2);
+    join3(s, m[a], m[b], m[c])
+}
+
+// The lanes of s put into row i.
+fn put(m: &mut [[u64; 8]], i: usize, s: [u64; 8])
+    requires { ⌜ i < length (now m) ⌝ }
+    ensures { λ r. ⌜ PutIn (now (m .entry)) i s (now (m .exit)) ⌝ }
+{
+    let old = m[i];
+    let mut r = [0u64; 8];
+    let mut y = 0;
+    while y < 8 {
+        r[y] = old[y] | s[y];
+        y += 1;
+    }
+    m[i] = r;
+}
+
+// The rows of the block at row a are emptied.
+fn clear(m: &mut [[u64; 8]], k: usize, a: usize)
+    requires { ⌜ Room k (now m) a ⌝ }
+    ensures { λ r. ⌜ Blank k (now (m .exit)) a × Within k (now (m .entry)) a (now (m .exit)) ⌝ }
+{
+    let mut q = 0;
+    while q < k {
+        m[a + q] = [0u64; 8];
+        q += 1;
+    }
+}
+
+// In each lane, every class that some word of f gives for arguments from the first n of the blocks `kids`, into the empty block at row `out`.
 // The lanes of words with one target that follow each other are joined before they are put in, so that no word waits for the store of the one before it.
 fn gather<'a>(
     words: &'a [u64; 128],
     heads: &'a [u8; 65],
     f: u8,
     n: u8,
-    a: &'a [u64; 64],
-    b: &'a [u64; 64],
-    c: &'a [u64; 64],
-    out: &mut [u64; 64],
+    k: usize,
+    m: &mut [[u64; 8]],
+    kids: [usize; 3],
+    out: usize,
 )
-    requires { ⌜ Indexed (now words) (now heads) × (f < 64) × (1 ≤ n) × (n ≤ 3) × Blank (now out) ⌝ }
-    ensures { λ r. ⌜ ((arities : List ℕ) → getD arities f 0 ≡ n → (j : ℕ) → j < 64 → lane j (now (out .exit)) ≡ gathered (wovenMoves arities (now (words .entry)) (getD (now (heads .entry)) 64 0)) f (take n (lane j (now (a .entry)) ∷ (lane j (now (b .entry)) ∷ (lane j (now (c .entry)) ∷ []))))) ⌝ }
+    requires { ⌜ Gatherable (now words) (now heads) f n k (now m) kids out ⌝ }
+    requires { ⌜ 1 ≤ n ⌝ }
+    ensures { λ r. ⌜ ((arities : List ℕ) → Gathered arities (now (words .entry)) (now (heads .entry)) f n k (now (m .entry)) kids out (now (m .exit))) ⌝ }
 {
     let at = place(f);
     let end = place(heads[at + 1]);
     let mut i = place(heads[at]);
     let mut target: usize = 0;
-    let mut lanes: u64 = 0;
+    let mut lanes = [0u64; 8];
     while i < end {
         let w = words[i];
         let next = part_of(w, 3);
         if next != target {
-            out[target] = out[target] | lanes;
-            lanes = 0;
+            put(m, out + target, lanes);
+            lanes = [0u64; 8];
             target = next;
         }
-        lanes = lanes | drawn_lanes(w, n, a, b, c);
+        let more = gain(n, w, lanes, m, kids);
+        lanes = more;
         i += 1;
     }
-    out[target] = out[target] | lanes;
+    put(m, out + target, lanes);
 }
 
-// In every lane, every class that some word of f without arguments gives.
-fn gather_leaf<'a>(words: &'a [u64; 128], heads: &'a [u8; 65], f: u8, out: &mut [u64; 64])
-    requires { ⌜ Indexed (now words) (now heads) × (f < 64) × Blank (now out) ⌝ }
-    ensures { λ r. ⌜ ((arities : List ℕ) → getD arities f 0 ≡ 0 → (j : ℕ) → j < 64 → lane j (now (out .exit)) ≡ gathered (wovenMoves arities (now (words .entry)) (getD (now (heads .entry)) 64 0)) f []) ⌝ }
+// In every lane, every class that some word of f without arguments gives, into the empty block at row `out`.
+fn gather_leaf<'a>(
+    words: &'a [u64; 128],
+    heads: &'a [u8; 65],
+    f: u8,
+    k: usize,
+    m: &mut [[u64; 8]],
+    out: usize,
+)
+    requires { ⌜ Gatherable (now words) (now heads) f 0 k (now m) [] out ⌝ }
+    ensures { λ r. ⌜ ((arities : List ℕ) → Gathered arities (now (words .entry)) (now (heads .entry)) f 0 k (now (m .entry)) [] out (now (m .exit))) ⌝ }
 {
     let at = place(f);
     let end = place(heads[at + 1]);
     let mut i = place(heads[at]);
     while i < end {
-        let target = part_of(words[i], 3);
-        out[target] = out[target] | ALL;
+        m[out + part_of(words[i], 3)] = [ALL; 8];
         i += 1;
     }
 }
 
-// The class q in every lane.
-fn fill_class(q: u8, out: &mut [u64; 64])
-    requires { ⌜ (q < 64) × Blank (now out) ⌝ }
-    ensures { λ r. ⌜ ((j : ℕ) → j < 64 → lane j (now (out .exit)) ≡ codeSet q j) ⌝ }
+// The term at a place is kept from then on, where those at a, b and c are.
+fn keep(ends: &mut [u8; 48], at: usize, a: usize, b: usize, c: usize, next: usize)
+    requires { ⌜ Keepable at a b c next ⌝ }
+    ensures { λ r. ⌜ Noted (now (ends .entry)) at a b c next (now (ends .exit)) ⌝ }
 {
-    out[place(q)] = ALL;
-}
-
-// In each lane its own class.
-fn fill_own(out: &mut [u64; 64])
-    requires { ⌜ Blank (now out) ⌝ }
-    ensures { λ r. ⌜ ((j : ℕ) → j < 64 → lane j (now (out .exit)) ≡ codeSet 64 j) ⌝ }
-{
-    let mut q: usize = 0;
-    while q < 64 {
-        out[q] = only(q as u64);
-        q += 1;
-    }
-}
-
-// Every class in every lane.
-fn fill_any(out: &mut [u64; 64])
-    requires { ⌜ Blank (now out) ⌝ }
-    ensures { λ r. ⌜ ((j : ℕ) → j < 64 → lane j (now (out .exit)) ≡ under 64) ⌝ }
-{
-    let mut q: usize = 0;
-    while q < 64 {
-        out[q] = ALL;
-        q += 1;
-    }
-}
-
-// In each lane the class that is the lane's place in its half.
-fn fill_half(out: &mut [u64; 64])
-    requires { ⌜ Blank (now out) ⌝ }
-    ensures { λ r. ⌜ ((j : ℕ) → j < 64 → lane j (now (out .exit)) ≡ codeSet 66 j) ⌝ }
-{
-    let mut q: usize = 0;
-    while q < 32 {
-        let class = q as u64;
-        out[q] = only(class) | only(class + 32);
-        q += 1;
-    }
-}
-
-// A class in the lower half of the lanes, and the next one in the upper half.
-fn fill_two(code: u8, out: &mut [u64; 64])
-    requires { ⌜ (128 ≤ code) × Blank (now out) ⌝ }
-    ensures { λ r. ⌜ ((j : ℕ) → j < 64 → lane j (now (out .exit)) ≡ codeSet code j) ⌝ }
-{
-    let q = place(code);
-    out[q % 64] = LOWER;
-    out[(q + 1) % 64] = minus(ALL, LOWER);
-}
-
-// The set s in every lane.
-fn fill_set(s: u64, out: &mut [u64; 64])
-    requires { ⌜ Blank (now out) ⌝ }
-    ensures { λ r. ⌜ ((j : ℕ) → j < 64 → lane j (now (out .exit)) ≡ mem s) ⌝ }
-{
-    let mut q: usize = 0;
-    while q < 64 {
-        if has(s, q as u64) {
-            out[q] = ALL;
-        }
-        q += 1;
-    }
-}
-
-// A variable, by its code.
-fn fill(code: u8, out: &mut [u64; 64])
-    requires { ⌜ Blank (now out) ⌝ }
-    ensures { λ r. ⌜ ((j : ℕ) → j < 64 → lane j (now (out .exit)) ≡ codeSet code j) ⌝ }
-{
-    if code < 64 {
-        fill_class(code, out);
-    } else {
-        if code == 64 {
-            fill_own(out);
-        } else {
-            if code == HALF {
-                fill_half(out);
-            } else {
-                if code < TWO {
-                    fill_any(out);
-                } else {
-                    fill_two(code, out);
-                }
+    if ends[a] != 0 {
+        if ends[b] != 0 {
+            if ends[c] != 0 {
+                ends[at] = next as u8;
             }
         }
     }
 }
 
-// The value in each lane of the term at a place, and the place after it, where the memo of the side that begins at `from` has some subterms' values. Each call has fewer tokens left.
+// Values the term at a place, where it is not kept: its block gets its value in each lane, by the sets in the variables' blocks. The place after the term.
+// What is without the variable whose token is `near` is kept from then on. Each call has fewer tokens left.
 pub fn value<'a>(
     words: &'a [u64; 128],
     heads: &'a [u8; 65],
-    arities: &'a [u8; 64],
-    symbols: usize,
-    codes: &'a [u8; 4],
-    tokens: &'a [u8; 1536],
-    from: usize,
-    ends: &'a [u8; 24],
-    sets: &'a [u64; 24],
+    arities: &'a [u8],
+    tokens: &'a [u8],
+    near: u8,
+    k: usize,
     at: usize,
-    out: &mut [u64; 64],
+    ends: &mut [u8; 48],
+    m: &mut [[u64; 8]],
 ) -> usize
-    requires { ⌜ Indexed (now words) (now heads) × ((f : ℕ) → getD (take symbols (now arities)) f 0 ≤ 3) × Stands (take symbols (now arities)) (now tokens) at × (length (now codes) ≡ 4) × Blank (now out) × (from ≤ at) × Settled (wovenMoves (take symbols (now arities)) (now words) (getD (now heads) 64 0)) (take symbols (now arities)) (now codes) (now tokens) from (now ends) (now sets) ⌝ }
-    ensures { λ r. ⌜ Valued (wovenMoves (take symbols (now (arities .entry))) (now (words .entry)) (getD (now (heads .entry)) 64 0)) (take symbols (now (arities .entry))) (now (codes .entry)) (now (tokens .entry)) at (now (out .exit)) r ⌝ }
+    requires { ⌜ Valuable (now arities) (now words) (now heads) (now tokens) near k at (now ends) (now m) ⌝ }
+    ensures { λ r. ⌜ Valued (wovenMoves (now (arities .entry)) (now (words .entry)) (getD (now (heads .entry)) 64 0))
+        (now (arities .entry)) (now (tokens .entry)) k (now (m .entry)) at (now (m .exit)) r ⌝ }
+    ensures { λ r. ⌜ Kept (wovenMoves (now (arities .entry)) (now (words .entry)) (getD (now (heads .entry)) 64 0))
+        (now (arities .entry)) (now (tokens .entry)) k near (now (m .exit)) (now (ends .exit)) ⌝ }
 {
-    let i = at - from;
-    let end = end_at(ends, i);
+    let end = place(ends[at]);
     if end != 0 {
-        fill_set(sets[i], out);
-        return from + place(end);
+        return end;
     }
     let f = tokens[at];
     let here = at + 1;
     if 64 <= f {
-        fill(code_of(codes, place(f - 64)), out);
+        if f != near {
+            ends[at] = here as u8;
+        }
         return here;
     }
-    let n = arity(arities, symbols, f);
+    let out = at * k;
+    let n = arity(arities, f);
     if n == 0 {
-        gather_leaf(words, heads, f, out);
+        clear(m, k, out);
+        gather_leaf(words, heads, f, k, m, out);
+        ends[at] = here as u8;
         return here;
     }
-    let mut a = [0u64; 64];
-    let second = value(
-        words,
-        heads,
-        arities,
-        symbols,
-        codes,
-        tokens,
-        from,
-        ends,
-        sets,
-        here,
-        &mut a,
-    );
+    let a = block_of(tokens, here) * k;
+    let second = value(words, heads, arities, tokens, near, k, here, ends, m);
     if n == 1 {
-        gather(words, heads, f, 1, &a, &a, &a, out);
+        clear(m, k, out);
+        gather(words, heads, f, 1, k, m, [a, a, a], out);
+        keep(ends, at, here, here, here, second);
         return second;
     }
-    let mut b = [0u64; 64];
-    let third = value(
-        words,
-        heads,
-        arities,
-        symbols,
-        codes,
-        tokens,
-        from,
-        ends,
-        sets,
-        second,
-        &mut b,
-    );
+    let b = block_of(tokens, second) * k;
+    let third = value(words, heads, arities, tokens, near, k, second, ends, m);
     if n == 2 {
-        gather(words, heads, f, 2, &a, &b, &b, out);
+        clear(m, k, out);
+        gather(words, heads, f, 2, k, m, [a, b, b], out);
+        keep(ends, at, here, second, second, third);
         return third;
     }
-    let mut c = [0u64; 64];
-    let after = value(
-        words,
-        heads,
-        arities,
-        symbols,
-        codes,
-        tokens,
-        from,
-        ends,
-        sets,
-        third,
-        &mut c,
-    );
-    gather(words, heads, f, 3, &a, &b, &c, out);
+    let c = block_of(tokens, third) * k;
+    let after = value(words, heads, arities, tokens, near, k, third, ends, m);
+    clear(m, k, out);
+    gather(words, heads, f, 3, k, m, [a, b, c], out);
+    keep(ends, at, here, second, third, after);
     after
 }

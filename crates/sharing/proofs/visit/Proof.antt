@@ -1,20 +1,15 @@
--- `sharing::visit` meets its contract: the three ways out are laws of `Sharing.antt`. Assumes nothing.
-use native.Mathlib.Omega.{arith}
+-- `sharing::visit` meets its contract: nothing is added where the rows do not join or the pair is there, and else `visit-add` says what is. Assumes nothing.
 use mathlib.Core.Path.{sym, ap, _∙_, subst}
 use Prim.Native.Nat.{ℕ, _+_, _*_, _<_}
-use Rattle.sets.specs.Sets.{mem, plus}
 use lib.ListN.{getD}
+use Rattle.sets.specs.Sets.{mem, plus}
+use Rattle.theory.proofs.Bools.{not-both}
 use Rattle.sharing.specs.Share.{arg}
-use Rattle.sharing.proofs.Sharing.{visit-off, visit-there, visit-add}
+use Rattle.sharing.proofs.Sharing.{none-yet, visit-add}
+use native.Mathlib.Omega.{arith}
 use borrow.Author.Needs.{needs}
 use Rattle.sharing.proofs.visit.Statement.{statement}
 use Rattle.sharing.proofs.visit.Tie as tie
-use Rattle.sharing.proofs.visit.Reads as reads
-use Rattle.sharing.proofs.visit.Lts as lts
-use Rattle.sharing.proofs.rows_join.Reads as rows-join-reads
-use Rattle.sharing.proofs.wide.Reads as wide-reads
-use Rattle.sets.proofs.has.Reads as has-reads
-use Rattle.sets.proofs.with.Reads as with-reads
 
 rows-join-requires : tie.Need-rows-join-requires
 rows-join-requires c κs = search needs
@@ -44,13 +39,16 @@ wide-requires : tie.Need-wide-requires
 wide-requires c κs = search needs
 
 mul-old : tie.Need-mul-old
-mul-old c = omega (arith, c .before .before .before .before .before .before .before .before .before .before .pre .3 .small (c .before .before .before .before .before .before .before .before .before .before .args .j * 5 + 4))
+mul-old c =
+    omega (arith, c .before .before .before .before .before .before .before .before .before .before .pre .3 .small (c .before .before .before .before .before .before .before .before .before .before .args .j * 5 + 4))
 
 slice-read-old : tie.Need-slice-read-old
-slice-read-old c = omega (arith, c .before .before .before .before .before .before .before .before .before .before .before .pre .3 .small (c .before .before .before .before .before .before .before .before .before .before .before .args .j * 5 + 4), c .before .before .before .before .before .before .before .before .before .before .before .pre .2)
+slice-read-old c =
+    omega (arith, c .before .before .before .before .before .before .before .before .before .before .before .pre .3 .small (c .before .before .before .before .before .before .before .before .before .before .before .args .j * 5 + 4), c .before .before .before .before .before .before .before .before .before .before .before .pre .2)
 
 has-requires : tie.Need-has-requires
-has-requires c κs = subst (λ (n : ℕ). n < 64) (sym (c .before .wide .ensures)) (c .before .before .before .before .before .before .before .before .before .before .before .pre .3 .bad-small (c .before .before .before .before .before .before .before .before .before .before .before .args .m * 5 + 4))
+has-requires c κs =
+    subst (λ (n : ℕ). n < 64) (sym (c .before .wide .ensures)) (c .before .before .before .before .before .before .before .before .before .before .before .pre .3 .bad-small (c .before .before .before .before .before .before .before .before .before .before .before .args .m * 5 + 4))
 
 same-length : tie.Need-same-length
 same-length c = search needs
@@ -59,27 +57,34 @@ returns : tie.Need-returns
 returns c =
     let start = c .before .before .before .before .before .before .before .before .before .before .before .before .before in
     let a = start .args in
-    visit-there (a .merged .now) (a .bad .now) (a .ar .now) (start .pre .3) (a .pairs .now) (a .j) (a .m) (ap (mem (getD (a .pairs .now) (arg (a .merged .now) (a .j) 4) 0)) (sym (c .before .before .before .wide .ensures)) ∙ sym (c .before .has .ensures) ∙ c .if2 .taken)
+    none-yet (a .merged .now) (a .bad .now) (a .ar .now) (start .pre .3) (a .pairs .now) _ (λ x. ap (mem (getD (a .pairs .now) (arg (a .merged .now) (a .j) 4) 0)) (sym (c .before .before .before .wide .ensures)) ∙ sym (c .before .has .ensures) ∙ c .if2 .taken)
 
 with-requires : tie.Need-with-requires
-with-requires c κs = subst (λ (n : ℕ). n < 64) (sym (c .before .before .before .wide .ensures)) (c .before .before .before .before .before .before .before .before .before .before .before .before .before .pre .3 .bad-small (c .before .before .before .before .before .before .before .before .before .before .before .before .before .args .m * 5 + 4))
+with-requires c κs =
+    subst (λ (n : ℕ). n < 64) (sym (c .before .before .before .wide .ensures)) (c .before .before .before .before .before .before .before .before .before .before .before .before .before .pre .3 .bad-small (c .before .before .before .before .before .before .before .before .before .before .before .before .before .args .m * 5 + 4))
 
 mul-pairs : tie.Need-mul-pairs
-mul-pairs c = omega (arith, c .before .before .before .before .before .before .before .before .before .before .before .before .before .before .pre .3 .small (c .before .before .before .before .before .before .before .before .before .before .before .before .before .before .args .j * 5 + 4))
+mul-pairs c =
+    omega (arith, c .before .before .before .before .before .before .before .before .before .before .before .before .before .before .pre .3 .small (c .before .before .before .before .before .before .before .before .before .before .before .before .before .before .args .j * 5 + 4))
 
 slice-write-pairs : tie.Need-slice-write-pairs
-slice-write-pairs c = omega (arith, c .before .before .before .before .before .before .before .before .before .before .before .before .before .before .pre .3 .small (c .before .before .before .before .before .before .before .before .before .before .before .before .before .before .args .j * 5 + 4), c .before .before .before .before .before .before .before .before .before .before .before .before .before .before .pre .2)
+slice-write-pairs c =
+    omega (arith, c .before .before .before .before .before .before .before .before .before .before .before .before .before .before .pre .3 .small (c .before .before .before .before .before .before .before .before .before .before .before .before .before .before .args .j * 5 + 4), c .before .before .before .before .before .before .before .before .before .before .before .before .before .before .pre .2)
+
+only-requires : tie.Need-only-requires
+only-requires c κs =
+    c .before .before .before .before .before .before .before .before .before .before .before .before .before .before .pre .3 .small (c .before .before .before .before .before .before .before .before .before .before .before .before .before .before .args .j * 5 + 4)
 
 same-length-2 : tie.Need-same-length-2
 same-length-2 c = search needs
 
 returns-2 : tie.Need-returns-2
 returns-2 c =
-    let start = c .before .before .before .before .before .before .before .before .before .before .before .before .before .before in
+    let start = c .before .before .before .before .before .before .before .before .before .before .before .before .before .before .before in
     let a = start .args in
     let old = getD (a .pairs .now) (arg (a .merged .now) (a .j) 4) 0 in
-    visit-add (a .merged .now) (a .bad .now) (a .ar .now) (start .pre .3) (a .pairs .now) (a .j) (a .m) (start .pre .0) (start .pre .1) (start .pre .2) (sym (c .before .before .before .before .before .before .before .before .rows-join .ensures) ∙ c .before .before .before .before .before .before .before .if1 .taken)
-    (ap (mem old) (sym (c .before .before .before .before .wide .ensures)) ∙ sym (c .before .before .has .ensures) ∙ c .before .if2 .left) (c .with .result) (c .with .ensures .0 ∙ ap (plus (mem old)) (c .before .before .before .before .wide .ensures)) (c .with .ensures .1) (c .with .ok)
+    visit-add (a .merged .now) (a .bad .now) (a .ar .now) (start .pre .3) (a .pairs .now) (a .j) (a .m) (start .pre .0) (start .pre .1) (start .pre .2) (sym (c .before .before .before .before .before .before .before .before .before .rows-join .ensures) ∙ c .before .before .before .before .before .before .before .before .if1 .taken)
+    (ap (mem old) (sym (c .before .before .before .before .before .wide .ensures)) ∙ sym (c .before .before .before .has .ensures) ∙ c .before .before .if2 .left) (c .before .with .result) (c .only .result) (c .before .with .ensures .0 ∙ ap (plus (mem old)) (c .before .before .before .before .before .wide .ensures)) (c .before .with .ensures .1) (c .before .with .ok) (c .only .ensures)
 
 same-length-3 : tie.Need-same-length-3
 same-length-3 c = search needs
@@ -88,7 +93,7 @@ returns-3 : tie.Need-returns-3
 returns-3 c =
     let start = c .before .before .before .before .before .before .before in
     let a = start .args in
-    visit-off (a .merged .now) (a .bad .now) (a .ar .now) (start .pre .3) (a .pairs .now) (a .j) (a .m) (sym (c .before .rows-join .ensures) ∙ c .if1 .left)
+    none-yet (a .merged .now) (a .bad .now) (a .ar .now) (start .pre .3) (a .pairs .now) _ (λ x. not-both _ x (sym (c .before .rows-join .ensures) ∙ c .if1 .left))
 
 pub visit-spec : {M : Type 1} → statement M
 visit-spec =
@@ -111,6 +116,7 @@ visit-spec =
     with-requires
     mul-pairs
     slice-write-pairs
+    only-requires
     same-length-2
     returns-2
     same-length-3

@@ -1,91 +1,113 @@
 -- `lanes::block::block` meets its contract. Assumes nothing.
-use mathlib.Core.Path.{_≡_, sym, ap, _∙_, subst}
-use mathlib.Core.List.{List}
-use Prim.Native.Nat.{ℕ, _+_, _<_}
-use lib.ListN.{getD, take}
-use Rattle.theory.specs.Term.{Term}
-use Rattle.theory.specs.Preorder.{Token}
-use Rattle.sets.specs.Sets.{Set, mem}
-use Rattle.sets.proofs.Laws.{mem-zero}
-use Rattle.woven.specs.Woven.{wovenMoves}
-use Rattle.values.specs.Sets.{spanned}
-use Rattle.values.specs.Lanes.{lane, setsOf}
-use Rattle.values.specs.Standing.{Spells}
-use Rattle.values.proofs.Standing.{within-room}
-use Rattle.lanes.specs.Prefixes.{codesOf}
-use Rattle.lanes.proofs.Coded.{block-empty, block-clear, block-some, block-unsuspected}
+use mathlib.Core.Path.{sym, _∙_, subst}
+use mathlib.Core.Logic.{⊎-elim}
+use Prim.Native.Nat.{_-_}
 use native.Mathlib.Omega.{arith}
+use lib.ListN.{getD}
 use borrow.Author.Needs.{needs}
+use Rattle.theory.proofs.Bools.{zero-at}
+use Rattle.woven.specs.Woven.{wovenMoves}
+use Rattle.values.proofs.Keeping.{kept-none}
+use Rattle.lanes.proofs.Blocks.{Placed, front-long, front-low, start-low, placed-one, placed-more, block-compared}
+use Rattle.lanes.proofs.Stays.{judgeable-stays}
 use Rattle.lanes.proofs.block.block.Statement.{statement}
 use Rattle.lanes.proofs.block.block.Tie as tie
+use Rattle.lanes.proofs.block.block.Reads as reads
+use Rattle.lanes.proofs.block.block.Lts as lts
+use Rattle.lanes.proofs.sides.compare.Reads as compare-reads
+use Rattle.lanes.proofs.variables.fix_all.Reads as fix-all-reads
+use Rattle.lanes.proofs.variables.pair_up.Reads as pair-up-reads
 
-has-requires : tie.Need-has-requires
-has-requires c κs = c .pre .7
+pair-up-requires : tie.Need-pair-up-requires
+pair-up-requires c κs =
+    let j = c .before .before .before .before .before .pre .0 in
+    record { room = j .room; some = j .ready .some; most = j .ready .most; high = omega arith; low = omega arith; two = λ e. omega arith; start-low = omega arith; lanes = omega (arith, j .ready .most) }
 
-last-requires : tie.Need-last-requires
-last-requires c κs = search needs
+slice-aggregate-fix-all : tie.Need-slice-aggregate-fix-all
+slice-aggregate-fix-all c =
+    let start = c .before .before .before .before .before .before in
+    omega (arith, front-long (start .args .v) (start .args .xs .now) (start .pre .1) (start .pre .2))
 
-side-requires : tie.Need-side-requires
-side-requires c κs = (c .before .before .before .before .pre .0, c .before .before .before .before .pre .1, c .before .before .before .before .pre .2, c .before .before .before .before .pre .5, c .before .before .before .before .pre .6, c .before .before .before .before .pre .7, c .before .before .before .before .pre .8)
+fix-all-requires : tie.Need-fix-all-requires
+fix-all-requires c κs =
+    let start = c .before .before .before .before .before .before in
+    let p = start .pre in
+    let a = start .args in
+    (p .0 .room, omega (arith, p .1, front-long (a .v) (a .xs .now) (p .1) (p .2)), front-low (a .k) (a .v) (a .xs .now) (p .1) (p .2) (p .3), p .0 .ready .most)
 
-any-requires : tie.Need-any-requires
-any-requires c κs = search needs
+sub-pair-up : tie.Need-sub-pair-up
+sub-pair-up c = search needs
+
+shared-slice-read-pair-up : tie.Need-shared-slice-read-pair-up
+shared-slice-read-pair-up c = search needs
+
+cast-pair-up : tie.Need-cast-pair-up
+cast-pair-up c =
+    let start = c .before .before .before .before .before .before .before .before .before .before in
+    omega (arith, start .pre .3 (start .args .v - 2), start .pre .0 .ready .most)
+
+mul-pair-up : tie.Need-mul-pair-up
+mul-pair-up c =
+    let start = c .before .before .before .before .before .before .before .before .before .before in
+    omega (arith, start-low (start .pre .3 (start .args .v - 2)) (start .pre .0 .ready .most))
+
+pair-up-requires-2 : tie.Need-pair-up-requires-2
+pair-up-requires-2 c κs =
+    let start = c .before .before .before .before .before .before .before .before .before .before in
+    let j = start .pre .0 in
+    record {
+      room = omega (arith, j .room, c .before .before .before .fix-all .ensures .1 .long);
+      some = j .ready .some;
+      most = j .ready .most;
+      high = omega (arith, start .pre .1);
+      low = omega (arith, start .pre .1);
+      two = λ e. omega (arith, c .before .before .before .before .before .before .if1 .left);
+      start-low = omega (arith, start-low (start .pre .3 (start .args .v - 2)) (j .ready .most));
+      lanes = omega (arith, j .ready .most);
+    }
+
+-- Before the sides are compared the lanes have the block's substitutions.
+placed : (c : lts.Joined1 (pair-up-reads.Asked, pair-up-reads.Learnt, fix-all-reads.Asked, fix-all-reads.Learnt, compare-reads.Asked, compare-reads.Learnt) reads.Pre reads.Post)
+    → let start = c .before .before .before .before in Placed (start .args .k) (start .args .v) (start .args .xs .now) (start .args .m .now) (c .if1 .m)
+placed c =
+    let start = c .before .before .before .before in
+    let a = start .args in
+    let p = start .pre in
+    ⊎-elim
+    (λ w. subst (Placed (a .k) (a .v) (a .xs .now) (a .m .now)) (sym (w .4)) (placed-one (w .0 .taken) (w .2 .ensures .0) (w .2 .ensures .1)))
+    (λ w. subst (Placed (a .k) (a .v) (a .xs .now) (a .m .now)) (sym (w .9)) (placed-more (a .k) (a .v) (a .xs .now) (w .0 .left) (p .1) (p .2) (p .0 .ready .most) (p .3) (w .3 .ensures .0) (w .3 .ensures .1) (w .7 .ensures .0) (w .7 .ensures .1)))
+    (c .if1 .came)
+
+compare-requires : tie.Need-compare-requires
+compare-requires c κs =
+    let joined = c .before .before in
+    let a = joined .before .before .before .before .args in
+    (judgeable-stays (a .k) (a .m .now) (joined .if1 .m) (placed joined .long) (joined .before .before .before .before .pre .0), kept-none (wovenMoves (a .arities .now) (a .words .now) (getD (a .heads .now) 64 0)) (a .arities .now) (a .tokens .now) (a .k) 255 _ _ (zero-at 48))
+
+same-length : tie.Need-same-length
+same-length c =
+    let joined = c .before .before .before .before in
+    c .before .compare .ensures .1 .1 .long ∙ placed joined .long
 
 returns : tie.Need-returns
 returns c =
-    let start = c .before .before .before .before .before .before .before .before in
-    let a = start .args in
-    let ar = take (a .symbols) (a .arities .now) in
-    λ k rule hk hx s suspected.
-    block-empty ar (a .words .now) (a .heads .now) (a .tokens .now) (a .at) k rule s (a .v) (a .x0) (a .x1) (a .x2) hk (start .pre .4) (start .pre .5) (start .pre .6) (start .pre .7) _ _ (subst (λ (own : ℕ). (t : Term ℕ) (after : List Token) → Spells ar (a .tokens .now) (a .at) t after → (j : ℕ) → j < 64 → lane j (c .before .before .before .side .last .1 .1 .1 .1 .1 .1 .1 .1 .1 .1 .1 .0) ≡ spanned (wovenMoves ar (a .words .now) (getD (a .heads .now) 64 0)) (setsOf (codesOf own 0 (a .x0) (a .x1) (a .x2)) j) t) (c .before .before .before .before .before .last .ensures) (c .before .before .before .side .ensures))
-    (λ j q hq. c .before .any .ensures j .0 (ap (λ (z : ℕ). mem z j) (c .if2 .taken) ∙ ap (λ (t : Set). t j) mem-zero) q hq)
-
-add-side : tie.Need-add-side
-add-side c = omega (arith, within-room (take (c .before .before .before .before .before .before .before .before .args .symbols) (c .before .before .before .before .before .before .before .before .args .arities .now)) (c .before .before .before .before .before .before .before .before .args .tokens .now) (c .before .before .before .before .before .before .before .before .args .at + 24) (c .before .before .before .before .before .before .before .before .pre .3))
-
-side-requires-2 : tie.Need-side-requires-2
-side-requires-2 c κs = (c .before .before .before .before .before .before .before .before .before .pre .0, c .before .before .before .before .before .before .before .before .before .pre .1, c .before .before .before .before .before .before .before .before .before .pre .3, c .before .before .before .before .before .before .before .before .before .pre .5, c .before .before .before .before .before .before .before .before .before .pre .6, c .before .before .before .before .before .before .before .before .before .pre .7, c .before .before .before .before .before .before .before .before .before .pre .9)
-
-any-less-requires : tie.Need-any-less-requires
-any-less-requires c κs = search needs
-
-returns-2 : tie.Need-returns-2
-returns-2 c =
-    let start = c .before .before .before .before .before .before .before .before .before .before .before .before .before .before in
-    let a = start .args in
-    let ar = take (a .symbols) (a .arities .now) in
-    λ k rule hk hx s suspected.
-    block-clear ar (a .words .now) (a .heads .now) (a .tokens .now) (a .at) k rule s (a .v) (a .x0) (a .x1) (a .x2) hk (start .pre .4) (start .pre .5) (start .pre .6) (start .pre .7) _ _ (subst (λ (own : ℕ). (t : Term ℕ) (after : List Token) → Spells ar (a .tokens .now) (a .at) t after → (j : ℕ) → j < 64 → lane j (c .before .before .before .before .before .before .before .before .before .side .last .1 .1 .1 .1 .1 .1 .1 .1 .1 .1 .1 .0) ≡ spanned (wovenMoves ar (a .words .now) (getD (a .heads .now) 64 0)) (setsOf (codesOf own 0 (a .x0) (a .x1) (a .x2)) j) t) (c .before .before .before .before .before .before .before .before .before .before .before .last .ensures) (c .before .before .before .before .before .before .before .before .before .side .ensures)) (subst (λ (own : ℕ). (t : Term ℕ) (after : List Token) → Spells ar (a .tokens .now) (a .at + 24) t after → (j : ℕ) → j < 64 → lane j (c .before .before .before .before .side2 .last .1 .1 .1 .1 .1 .1 .1 .1 .1 .1 .1 .0) ≡ spanned (wovenMoves ar (a .words .now) (getD (a .heads .now) 64 0)) (setsOf (codesOf own 0 (a .x0) (a .x1) (a .x2)) j) t) (c .before .before .before .before .before .before .before .before .before .before .before .last .ensures) (c .before .before .before .before .side2 .ensures))
-    (λ j q hq. c .before .any-less .ensures j .0 (ap (λ (z : ℕ). mem z j) (c .if3 .taken) ∙ ap (λ (t : Set). t j) mem-zero) q hq)
-
-returns-3 : tie.Need-returns-3
-returns-3 c =
-    let start = c .before .before .before .before .before .before .before .before .before .before .before .before .before .before in
-    let a = start .args in
-    let ar = take (a .symbols) (a .arities .now) in
-    λ k rule hk hx s suspected.
-    block-some ar (a .words .now) (a .heads .now) (a .tokens .now) (a .at) k rule s (a .v) (a .x0) (a .x1) (a .x2) hk (start .pre .4) (start .pre .5) (start .pre .6) (start .pre .7) _ _ (subst (λ (own : ℕ). (t : Term ℕ) (after : List Token) → Spells ar (a .tokens .now) (a .at) t after → (j : ℕ) → j < 64 → lane j (c .before .before .before .before .before .before .before .before .before .side .last .1 .1 .1 .1 .1 .1 .1 .1 .1 .1 .1 .0) ≡ spanned (wovenMoves ar (a .words .now) (getD (a .heads .now) 64 0)) (setsOf (codesOf own 0 (a .x0) (a .x1) (a .x2)) j) t) (c .before .before .before .before .before .before .before .before .before .before .before .last .ensures) (c .before .before .before .before .before .before .before .before .before .side .ensures)) (subst (λ (own : ℕ). (t : Term ℕ) (after : List Token) → Spells ar (a .tokens .now) (a .at + 24) t after → (j : ℕ) → j < 64 → lane j (c .before .before .before .before .side2 .last .1 .1 .1 .1 .1 .1 .1 .1 .1 .1 .1 .0) ≡ spanned (wovenMoves ar (a .words .now) (getD (a .heads .now) 64 0)) (setsOf (codesOf own 0 (a .x0) (a .x1) (a .x2)) j) t) (c .before .before .before .before .before .before .before .before .before .before .before .last .ensures) (c .before .before .before .before .side2 .ensures))
-
-returns-4 : tie.Need-returns-4
-returns-4 c =
-    let start = c .before .before in
-    let a = start .args in
-    let ar = take (a .symbols) (a .arities .now) in
-    λ k rule hk hx s suspected.
-    block-unsuspected ar (a .words .now) (a .heads .now) (a .tokens .now) (a .at) k rule s (a .v) (a .x0) (a .x1) (a .x2) (a .suspects) hx suspected (sym (c .before .has .ensures) ∙ c .if1 .left) _ _
+    let joined = c .before .before .before .before in
+    let p = joined .before .before .before .before .pre in
+    let compared = c .before .compare .ensures in
+    (λ rule s left right. block-compared (p .0) (p .1) (placed joined) rule left right (compared .0 rule s), compared .1 .1 .long ∙ placed joined .long)
 
 pub block-spec : {M : Type 1} → statement M
 block-spec =
     tie.close
     (tie.spec
-    has-requires
-    last-requires
-    side-requires
-    any-requires
-    returns
-    add-side
-    side-requires-2
-    any-less-requires
-    returns-2
-    returns-3
-    returns-4)
+    pair-up-requires
+    slice-aggregate-fix-all
+    fix-all-requires
+    sub-pair-up
+    shared-slice-read-pair-up
+    cast-pair-up
+    mul-pair-up
+    pair-up-requires-2
+    compare-requires
+    same-length
+    returns)

@@ -1,64 +1,55 @@
--- What holds at each of the search's loops, and what falls in each.
-use mathlib.Core.Path.{_≡_}
-use mathlib.Core.Bool.{false}
+-- The invariant of each of the search's loops, and what falls in each.
 use mathlib.Core.List.{[], _∷_}
-use Prim.Native.Nat.{ℕ, _-_, _≤_, _<_}
-use lib.ListN.{take}
-use Rattle.paper.specs.Meaning.{total}
-use Rattle.sets.specs.Sets.{less}
-use Rattle.values.specs.Lanes.{lane}
-use Rattle.lanes.specs.Blocks.{Alive, Suspected}
-use Rattle.search.proofs.Order.{ruleIn}
-use Rattle.search.proofs.Walk.{Clear, Level}
-use Rattle.search.proofs.Steps.{M, R, Ruled, Lanes}
+use Prim.Native.Nat.{_-_}
+use Rattle.search.proofs.Loops.{AtRule, AtChoice, AtThird, AtLane, AtClass}
 use Rattle.search.proofs.search.Tie as tie
 
 abbrev pub Inv-classes : tie.InvT-classes
-Inv-classes words heads arities symbols k budget rules most count examined rule at v lanes many more m0 m1 m2 live0 x0 live1 x1 suspected x2 l r j q₀ q =
-    (q ≤ k) × ((x : ℕ) → x < q → less (lane j l) (lane j r) x ≡ false)
+Inv-classes words heads arities k budget groups m rules most size count examined rule at tokens v lanes passed1 passed0 m0 m1 m2 variables right open0 x0 open1 x1 x2 j q₀ q =
+    AtClass k right m j q
 
 abbrev pub μ-classes : tie.MeasureT-classes
-μ-classes words heads arities symbols k budget rules most count examined rule at v lanes many more m0 m1 m2 live0 x0 live1 x1 suspected x2 l r j q₀ q =
+μ-classes words heads arities k budget groups m rules most size count examined rule at tokens v lanes passed1 passed0 m0 m1 m2 variables right open0 x0 open1 x1 x2 j q₀ q =
     k - q
 
 abbrev pub Inv-lanes : tie.InvT-lanes
-Inv-lanes words heads arities symbols k budget rules most count examined₀ rule at v lanes many more m0 m1 m2 live0 x0 live1 x1 suspected x2 l r j₀ examined j =
-    Ruled (take symbols arities) words heads rules k budget most rule at v lanes many more m0 m1 m2 × Lanes (take symbols arities) words heads rules k budget rule v x0 x1 x2 l r examined₀ j examined
+Inv-lanes words heads arities k budget groups m rules most size count examined₀ rule at tokens v lanes passed1 passed0 m0 m1 m2 variables right open0 x0 open1 x1 x2 j₀ examined j =
+    AtLane arities words heads rules k groups budget most size rule tokens v lanes passed1 passed0 m0 m1 m2 variables right x0 x1 x2 m examined₀ j examined
 
 abbrev pub μ-lanes : tie.MeasureT-lanes
-μ-lanes words heads arities symbols k budget rules most count examined₀ rule at v lanes many more m0 m1 m2 live0 x0 live1 x1 suspected x2 l r j₀ examined j =
+μ-lanes words heads arities k budget groups m rules most size count examined₀ rule at tokens v lanes passed1 passed0 m0 m1 m2 variables right open0 x0 open1 x1 x2 j₀ examined j =
     lanes - j
 
 abbrev pub Inv-third : tie.InvT-third
-Inv-third words heads arities symbols k budget rules most count examined₀ rule at v lanes many more m0 m1 m2 live0 x0 live1 x1 suspected x2₀ examined x2 =
-    Ruled (take symbols arities) words heads rules k budget most rule at v lanes many more m0 m1 m2 × Level (M (take symbols arities) words heads rules k) (R (take symbols arities) words heads rules k) v 2 rule (ruleIn (R (take symbols arities) words heads rules k) rule) (x0 ∷ (x1 ∷ [])) budget examined₀ x2 examined × Suspected (M (take symbols arities) words heads rules k) (ruleIn (R (take symbols arities) words heads rules k) rule) v x0 x1 suspected × (x0 < 64) × (x1 < 64)
+Inv-third words heads arities k budget groups m₀ rules most size count examined₀ rule at tokens v lanes passed1 passed0 m0 m1 m2 variables right open0 x0 open1 x1 x2₀ m examined x2 =
+    AtThird arities words heads rules k groups budget most size rule tokens v lanes passed1 passed0 m0 m1 m2 variables right x0 x1 m₀ m examined₀ x2 examined
 
 abbrev pub μ-third : tie.MeasureT-third
-μ-third words heads arities symbols k budget rules most count examined₀ rule at v lanes many more m0 m1 m2 live0 x0 live1 x1 suspected x2₀ examined x2 =
+μ-third words heads arities k budget groups m₀ rules most size count examined₀ rule at tokens v lanes passed1 passed0 m0 m1 m2 variables right open0 x0 open1 x1 x2₀ m examined x2 =
     m2 - x2
 
 abbrev pub Inv-second : tie.InvT-second
-Inv-second words heads arities symbols k budget rules most count examined₀ rule at v lanes many more m0 m1 m2 live0 x0 live1 x1₀ examined x1 =
-    Ruled (take symbols arities) words heads rules k budget most rule at v lanes many more m0 m1 m2 × Level (M (take symbols arities) words heads rules k) (R (take symbols arities) words heads rules k) v 1 rule (ruleIn (R (take symbols arities) words heads rules k) rule) (x0 ∷ []) budget examined₀ x1 examined × Alive (M (take symbols arities) words heads rules k) (ruleIn (R (take symbols arities) words heads rules k) rule) v 1 x0 0 live1 × (x0 < 64)
+Inv-second words heads arities k budget groups m₀ rules most size count examined₀ rule at tokens v lanes passed1 passed0 m0 m1 m2 variables right open0 x0 open1 x1₀ m examined x1 =
+    AtChoice arities words heads rules k groups budget most size rule tokens v lanes passed1 passed0 m0 m1 m2 variables right 1 (x0 ∷ []) open1 m₀ m examined₀ x1 examined
 
 abbrev pub μ-second : tie.MeasureT-second
-μ-second words heads arities symbols k budget rules most count examined₀ rule at v lanes many more m0 m1 m2 live0 x0 live1 x1₀ examined x1 =
+μ-second words heads arities k budget groups m₀ rules most size count examined₀ rule at tokens v lanes passed1 passed0 m0 m1 m2 variables right open0 x0 open1 x1₀ m examined x1 =
     m1 - x1
 
 abbrev pub Inv-first : tie.InvT-first
-Inv-first words heads arities symbols k budget rules most count examined₀ rule at v lanes many more m0 m1 m2 live0 x0₀ examined x0 =
-    Ruled (take symbols arities) words heads rules k budget most rule at v lanes many more m0 m1 m2 × Level (M (take symbols arities) words heads rules k) (R (take symbols arities) words heads rules k) v 0 rule (ruleIn (R (take symbols arities) words heads rules k) rule) [] budget examined₀ x0 examined × Alive (M (take symbols arities) words heads rules k) (ruleIn (R (take symbols arities) words heads rules k) rule) v 0 0 0 live0
+Inv-first words heads arities k budget groups m₀ rules most size count examined₀ rule at tokens v lanes passed1 passed0 m0 m1 m2 variables right open0 x0₀ m examined x0 =
+    AtChoice arities words heads rules k groups budget most size rule tokens v lanes passed1 passed0 m0 m1 m2 variables right 0 [] open0 m₀ m examined₀ x0 examined
 
 abbrev pub μ-first : tie.MeasureT-first
-μ-first words heads arities symbols k budget rules most count examined₀ rule at v lanes many more m0 m1 m2 live0 x0₀ examined x0 =
+μ-first words heads arities k budget groups m₀ rules most size count examined₀ rule at tokens v lanes passed1 passed0 m0 m1 m2 variables right open0 x0₀ m examined x0 =
     m0 - x0
 
 abbrev pub Inv-search : tie.InvT-search
-Inv-search words heads arities symbols k budget rules most count examined₀ rule₀ examined rule =
-    (most ≡ budget) × (count ≡ rules .count) × (rule ≤ rules .count) × (examined ≡ total k (take rule (R (take symbols arities) words heads rules k))) × (examined ≤ budget) × Clear (M (take symbols arities) words heads rules k) (R (take symbols arities) words heads rules k) examined
+Inv-search words heads arities k budget groups m₀ rules all most size count examined₀ rule₀ m examined rule =
+    AtRule arities words heads rules k groups budget all most size count m₀ m examined rule
 
 abbrev pub μ-search : tie.MeasureT-search
-μ-search words heads arities symbols k budget rules most count examined₀ rule₀ examined rule =
+μ-search words heads arities k budget groups m₀ rules all most size count examined₀ rule₀ m examined rule =
     rules .count - rule
 
 -- A need, at these invariants and measures.
