@@ -196,8 +196,8 @@ fn main() {
     compare("the call-frame example, 366 bytes", &[example("frames-accepted.cert")], 2000, None);
     compare("the corpus of trials", &corpus(), 1, None);
 
-    // Made to be slow: the first two for the search, the third for the question of sharing.
-    for name in ["chain-32", "subset-32"] {
+    // Made to be slow: the first four for the search, the last for the question of sharing.
+    for name in ["chain-32", "subset-32", "carry-32", "deep-32"] {
         let (bytes, case) = worst(name);
         compare(name, &[bytes], 1, Some(&case));
     }

@@ -49,7 +49,7 @@ fn tuples(length: usize, most: usize) -> Vec<Vec<usize>> {
 }
 
 /// Rows under which a term with clad variables always has a class: the unary symbols take every class to one of the first few, by its kind, and the
-/// others take those to some of them.
+/// others take those to some of them. Some unary rows lead to a class that no other row takes: classes that differ by such rows alone are alike, too.
 fn closed_rows(n: &mut Numbers, k: usize, kind: &[usize]) -> Vec<Vec<usize>> {
     let few = 2;
     let mut rows = vec![vec![0, n.below(few)]];
@@ -58,6 +58,14 @@ fn closed_rows(n: &mut Numbers, k: usize, kind: &[usize]) -> Vec<Vec<usize>> {
         let odd = n.below(8);
         for q in 0..k {
             rows.push(vec![f, q, if n.chance(odd) { n.below(few) } else { to[kind[q]] }]);
+        }
+    }
+    let idle = if k > few && n.chance(50) { n.below(100) } else { 0 };
+    for f in 1..3 {
+        for q in 0..k {
+            if rows.len() < 96 && n.chance(idle) {
+                rows.push(vec![f, q, few + n.below(k - few)]);
+            }
         }
     }
     let both = n.below(100);

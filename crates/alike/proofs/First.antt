@@ -1,6 +1,4 @@
 -- What is critical stays critical when an alike class stands for a variable.
-use mathlib.Core.Path.{_≡_, ap, ap₂, _∙_}
-use mathlib.Core.Bool.{_&&_, not}
 use mathlib.Core.List.{List}
 use Prim.Native.Nat.{ℕ}
 use lib.ListN.{set}
@@ -8,18 +6,18 @@ use lib.Seq.{set-getD}
 use Rattle.theory.specs.Rewriting.{Rule}
 use Rattle.theory.specs.Automaton.{Automaton}
 use Rattle.theory.specs.Critical.{entry}
-use Rattle.theory.specs.Value.{isCritical}
 use Rattle.paper.specs.Computed.{case}
 use Rattle.paper.proofs.Listed.{CriticalFor}
 use Rattle.alike.specs.Alike.{AlikeFor, SameSides}
-use Rattle.alike.proofs.Carried.{same-value, same-test-value}
+use Rattle.alike.proofs.Carried.{same-value}
 
 -- Classes alike for x in both sides may stand for each other.
 pub same-sides : {M : Automaton} {rule : Rule} {x c d : ℕ} → AlikeFor M x c d (rule .left) → AlikeFor M x c d (rule .right) → SameSides M rule x c d
 same-sides l r = record { left = same-value l; right = same-value r }
 
 -- With c for x the same class is critical.
-pub still-critical : {M : Automaton} {rule : Rule} {x c : ℕ} (n : ℕ) (σ : List ℕ) {q : ℕ} → SameSides M rule x c (entry σ x) → CriticalFor M (case n rule σ) q → CriticalFor M (case n rule (set σ x c)) q
+pub still-critical : {M : Automaton} {rule : Rule} {x c : ℕ} (n : ℕ) (σ : List ℕ) {q : ℕ} → SameSides M rule x c (entry σ x) → CriticalFor M (case n rule σ) q
+    → CriticalFor M (case n rule (set σ x c)) q
 unfolding entry
 still-critical {M} {rule} {x} {c} n σ {q} s k =
     let own = set-getD σ x 0 in
@@ -27,13 +25,3 @@ still-critical {M} {rule} {x} {c} n σ {q} s k =
       left = s .left .same σ q .1 (rw own (k .left));
       notRight = λ g. k .notRight (rw own at (s .right .same σ q .0 g));
     }
-
-own-entry : (σ : List ℕ) (x : ℕ) → set σ x (entry σ x) ≡ σ
-unfolding entry
-own-entry σ x = set-getD σ x 0
-
--- So is it by the test that runs.
-pub carried : (M : Automaton) (rule : Rule) (x c : ℕ) (σ : List ℕ) (q : ℕ) → SameSides M rule x c (entry σ x) → isCritical M rule (set σ x c) q ≡ isCritical M rule σ q
-unfolding isCritical
-carried M rule x c σ q s =
-    ap₂ (λ a b. a && not b) (same-test-value M (s .left) σ q) (same-test-value M (s .right) σ q) ∙ ap (λ τ. isCritical M rule τ q) (own-entry σ x)

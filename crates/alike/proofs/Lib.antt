@@ -1,8 +1,8 @@
 pub mod Carried
 pub mod First
-pub mod Rows
 pub mod Steps
-pub mod Groups
+pub mod Rests
+pub mod Words
 pub mod Sides
 pub mod Lowest
 pub mod Enough

@@ -1,6 +1,4 @@
-pub mod Places
 pub mod Alike
-pub mod Rows
-pub mod Groups
+pub mod Words
 pub mod Sides
 pub mod Needed

@@ -9,9 +9,9 @@ use Rattle.theory.specs.Rewriting.{Rule}
 use Rattle.theory.specs.Preorder.{Token}
 use Rattle.theory.specs.Automaton.{Automaton}
 use Rattle.sets.specs.Sets.{mem}
+use Rattle.woven.specs.Woven.{wovenMoves, Indexed}
 use Rattle.values.specs.Standing.{Spells}
 use Rattle.alike.specs.Alike.{SameSides}
-use Rattle.alike.specs.Groups.{Grouped}
 use Rattle.alike.specs.Sides.{Written}
 
 -- A smaller class that gives both sides of the rule the same value.
@@ -28,16 +28,17 @@ pub record Led (M : Automaton) (rule : Rule) (x mask : ℕ) : Type 0 where
 abbrev pub Lowest : List ℕ → (n mask : ℕ) → Type 0
 Lowest same n mask = (d : ℕ) → d < n → mem mask d ≡ false → (c : ℕ) × (c < d) × (mem (getD same d 0) c ≡ true)
 
--- The tokens of a rule, the left side from 0 and the right side from 24, and a variable.
-pub record RuleGiven (arities tokens : List ℕ) (x : ℕ) : Type 0 where
+-- The words by symbol, the tokens of a rule, the left side from 0 and the right side from 24, and a variable.
+pub record RuleGiven (words heads arities tokens : List ℕ) (x : ℕ) : Type 0 where
+  pub indexed : Indexed words heads
   pub long : length tokens ≡ 48
   pub ranks : (f : ℕ) → getD arities f 0 ≤ 3
   pub left : Written arities tokens 0
   pub right : Written arities tokens 24
   pub variable : x < 4
 
--- The mask is enough for the rule of these tokens, whose left side is no variable, by the transitions that the groups were made of.
-abbrev pub Enough : (groups arities tokens : List ℕ) → (x mask : ℕ) → Type 0
-Enough groups arities tokens x mask =
+-- The mask is enough for the rule of these tokens, whose left side is no variable, by the transitions that the words mean.
+abbrev pub Enough : (words heads arities tokens : List ℕ) → (x mask : ℕ) → Type 0
+Enough words heads arities tokens x mask =
     (M : Automaton) (rule : Rule) (after-left after-right : List Token) → Spells arities tokens 0 (rule .left) after-left → Spells arities tokens 24 (rule .right) after-right
-    → ((y : ℕ) → rule .left ≡ var y → ⊥) → (length groups ≡ 12288 → Grouped (M .transitions) groups) → Led M rule x mask
+    → ((y : ℕ) → rule .left ≡ var y → ⊥) → M .transitions ≡ wovenMoves arities words (getD heads 64 0) → Led M rule x mask

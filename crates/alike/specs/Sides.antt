@@ -1,4 +1,4 @@
--- A variable's places in a side of a rule, and the classes that are in the words of all of them.
+-- A variable's places in a side of a rule, and the classes that are alike at all of them.
 use mathlib.Core.Path.{_≡_}
 use mathlib.Core.Bool.{true, cond}
 use mathlib.Core.List.{List, map}
@@ -9,9 +9,11 @@ use Rattle.theory.specs.Term.{Term, Terms}
 use Rattle.theory.specs.Preorder.{Token}
 use Rattle.sets.specs.Sets.{mem}
 use Rattle.tables.specs.Held.{tokenOf}
+use Rattle.woven.specs.Woven.{wovenMoves, Indexed}
 use Rattle.values.specs.Standing.{Spells, SpellsRow}
-use Rattle.alike.specs.Places.{Occurs, OccursIn}
-use Rattle.alike.specs.Groups.{wordOf, Within, ChangedTo}
+use Rattle.alike.specs.declared.Arguments.{Arguments}
+use Rattle.alike.specs.Alike.{AlikeAt, AlikeIn, AlikeRow}
+use Rattle.alike.specs.Words.{Within}
 
 -- How many subterms follow a token: a variable has none.
 unfoldable pub rank : List ℕ → ℕ → ℕ
@@ -29,56 +31,50 @@ pub record WrittenRow (arities tokens : List ℕ) (at n : ℕ) : Type 0 where
   pub rest : List Token
   pub spells : SpellsRow arities tokens at n row rest
 
--- Each of the n words is left with classes that are also in the word so far behind `from` in the groups.
-abbrev pub JoinedTo : (groups : List ℕ) → (from : ℕ) → (old : List ℕ) → (n : ℕ) → (new : List ℕ) → Type 0
-JoinedTo groups from old n new = ChangedTo (λ d was is. (c : ℕ) → mem is c ≡ true → (mem was c ≡ true) × (mem (getD groups (from + d) 0) c ≡ true)) old 0 n new
-
--- The class c is in the word for d at argument p of the symbol f.
-pub record Met (groups : List ℕ) (f p c d : ℕ) : Type 0 where
-  pub symbol : f < 64
-  pub argument : p < 3
-  pub member : mem (wordOf groups f p d) c ≡ true
-
--- What a join at argument p of the symbol f asks.
-pub record TokenGiven (groups : List ℕ) (x f p : ℕ) (same : List ℕ) : Type 0 where
-  pub words : length groups ≡ 12288
-  pub variable : x < 4
-  pub symbol : f < 64
-  pub argument : p < 3
-  pub masks : length same ≡ 64
-
--- The masks are joined with the words of argument p of the symbol f if the token there is the variable x.
-pub record TokenJoined (groups : List ℕ) (x token f p : ℕ) (old new : List ℕ) : Type 0 where
-  pub long : length new ≡ length old
-  pub within : Within old new
-  pub met : token ≡ x + 64 → (d c : ℕ) → d < 64 → mem (getD new d 0) c ≡ true → Met groups f p c d
-
--- What a walk over the rest of a symbol's arguments asks: so many are left, from argument p of the symbol f on.
-pub record RowGiven (groups arities tokens : List ℕ) (x f p left at : ℕ) : Type 0 where
-  pub words : length groups ≡ 12288
+-- What every walk over tokens asks.
+pub record Walk (words heads arities : List ℕ) (x : ℕ) : Type 0 where
+  pub indexed : Indexed words heads
   pub ranks : (g : ℕ) → getD arities g 0 ≤ 3
   pub variable : x < 4
-  pub symbol : 0 < left → f < 64
-  pub arguments : p + left ≤ 3
-  pub row : WrittenRow arities tokens at left
 
--- The masks are joined with the words of all places of x in these arguments, behind which `next` is.
-pub record RowJoined (groups arities tokens : List ℕ) (x f p left at : ℕ) (old new : List ℕ) (next : ℕ) : Type 0 where
+-- What a token asks that is the first of the arguments.
+pub record TokenGiven (words heads : List ℕ) (x : ℕ) (here : Arguments) : Type 0 where
+  pub indexed : Indexed words heads
+  pub variable : x < 4
+  pub symbol : here .symbol < 64
+  pub argument : here .first < 3
+
+-- If the token is the variable x, the masks are left with classes that are alike at its place.
+pub record TokenJoined (words heads : List ℕ) (x token : ℕ) (here : Arguments) (old new : List ℕ) : Type 0 where
   pub long : length new ≡ length old
   pub within : Within old new
-  pub met : (ts : Terms ℕ) (rest : List Token) → SpellsRow arities tokens at left ts rest → (g q : ℕ) → OccursIn x g q f p ts → (d c : ℕ) → d < 64 → mem (getD new d 0) c ≡ true → Met groups g q c d
-  pub after : (ts : Terms ℕ) (rest : List Token) → SpellsRow arities tokens at left ts rest → map tokenOf (drop next tokens) ≡ rest
+  pub alike : token ≡ x + 64 → (arities : List ℕ) (d c : ℕ) → d < 64 → mem (getD new d 0) c ≡ true
+      → AlikeAt (wovenMoves arities words (getD heads 64 0)) (here .wanted) (here .symbol) (here .first) c d
+
+-- What a walk over the rest of a symbol's arguments asks.
+pub record RowGiven (words heads arities tokens : List ℕ) (x : ℕ) (here : Arguments) (at : ℕ) : Type 0 where
+  pub walk : Walk words heads arities x
+  pub symbol : 0 < here .left → here .symbol < 64
+  pub arguments : here .first + here .left ≤ 3
+  pub row : WrittenRow arities tokens at (here .left)
+
+-- The masks are left with classes that are alike at all places of x in these arguments, behind which `next` is.
+pub record RowJoined (words heads arities tokens : List ℕ) (x : ℕ) (here : Arguments) (at : ℕ) (old new : List ℕ) (next : ℕ) : Type 0 where
+  pub long : length new ≡ length old
+  pub within : Within old new
+  pub alike : (ts : Terms ℕ) (rest : List Token) → SpellsRow arities tokens at (here .left) ts rest → (d c : ℕ) → d < 64 → mem (getD new d 0) c ≡ true
+      → AlikeRow (wovenMoves arities words (getD heads 64 0)) x c d (here .wanted) (here .symbol) (here .first) ts
+  pub after : (ts : Terms ℕ) (rest : List Token) → SpellsRow arities tokens at (here .left) ts rest → map tokenOf (drop next tokens) ≡ rest
   pub forward : at ≤ next
 
 -- What a walk over a term asks.
-pub record SideGiven (groups arities tokens : List ℕ) (x at : ℕ) : Type 0 where
-  pub words : length groups ≡ 12288
-  pub ranks : (g : ℕ) → getD arities g 0 ≤ 3
-  pub variable : x < 4
+pub record SideGiven (words heads arities tokens : List ℕ) (x at : ℕ) : Type 0 where
+  pub walk : Walk words heads arities x
   pub term : Written arities tokens at
 
--- The masks are joined with the words of all places of x in the term.
-pub record SideJoined (groups arities tokens : List ℕ) (x at : ℕ) (old new : List ℕ) : Type 0 where
+-- The masks are left with classes that are alike at all places of x in the term, of which all classes are wanted.
+pub record SideJoined (words heads arities tokens : List ℕ) (x at : ℕ) (old new : List ℕ) : Type 0 where
   pub long : length new ≡ length old
   pub within : Within old new
-  pub met : (t : Term ℕ) (rest : List Token) → Spells arities tokens at t rest → (g q : ℕ) → Occurs x g q t → (d c : ℕ) → d < 64 → mem (getD new d 0) c ≡ true → Met groups g q c d
+  pub alike : (t : Term ℕ) (rest : List Token) → Spells arities tokens at t rest → (d c : ℕ) → d < 64 → mem (getD new d 0) c ≡ true
+      → AlikeIn (wovenMoves arities words (getD heads 64 0)) x c d 18446744073709551615 t

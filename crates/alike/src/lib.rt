@@ -1,67 +1,59 @@
-// Classes of a variable that may stand for each other, by the argument places that it has in a rule.
+// Classes of a variable that may stand for each other, by the words that count at the argument places that it has in a rule.
+// A word counts only if its target is wanted there: all classes are wanted of a side, and of an argument those that a word with a wanted target has there.
 use sets::below;
 use sets::has;
 use sets::minus;
 use sets::with;
+use values::arity;
+use values::part_of;
+use values::place;
 ghost use mathlib.Core.Path.{_≡_};
-ghost use mathlib.Core.Bool.{true};
 ghost use mathlib.Core.List.{List};
-ghost use mathlib.Core.Logic.{_↔_};
-ghost use Prim.Native.Nat.{ℕ, _+_, _≤_, _<_};
-ghost use lib.ListN.{length};
-ghost use Rattle.tables.specs.Held.{movesOf};
-ghost use Rattle.woven.specs.Woven.{Flat};
-ghost use Rattle.alike.specs.Rows.{SameRest, Standing, Narrowed};
-ghost use Rattle.alike.specs.Groups.{Grouped, NarrowedTo, SortedTo};
-ghost use Rattle.alike.specs.Sides.{rank, JoinedTo, TokenGiven, TokenJoined, RowGiven, RowJoined, SideGiven, SideJoined};
+ghost use Prim.Native.Nat.{ℕ, _≤_, _<_};
+ghost use lib.ListN.{length, getD};
+ghost use Rattle.woven.specs.Woven.{part, wovenMoves};
+ghost use Rattle.alike.specs.Alike.{Calls};
+ghost use Rattle.alike.specs.Words.{restOf, Standing, Narrowed, NarrowedTo, PlaceGiven, PlaceNarrowed};
+ghost use Rattle.alike.specs.Sides.{rank, TokenGiven, TokenJoined, RowGiven, RowJoined, SideGiven, SideJoined};
 ghost use Rattle.alike.specs.Needed.{Lowest, RuleGiven, Enough};
 
 const ALL: u64 = 18446744073709551615;
 
-// Groups by argument place: word (f * 3 + p) * 64 + d has classes that are alike to d at argument p of the symbol f.
-pub const GROUPS: usize = 12288;
-
-// A byte as a wide number.
-fn wide(x: u8) -> u64
-    ensures { λ r. ⌜ r ≡ x ⌝ }
-{
-    x as u64
+// The arguments of a symbol that are still to be walked: so many, from the argument `first` on; and the targets that are wanted of the symbol.
+struct Arguments {
+    symbol: u8,
+    first: u64,
+    left: usize,
+    wanted: u64,
 }
 
-// A byte as a place.
-fn place(x: u8) -> usize
-    ensures { λ r. ⌜ r ≡ x ⌝ }
+// The class in byte i of a word.
+fn class_at(w: u64, i: u64) -> u64
+    requires { ⌜ i < 5 ⌝ }
+    ensures { λ r. ⌜ (r ≡ part w i) × (r < 64) ⌝ }
 {
-    x as usize
+    part_of(w, i) as u64
 }
 
-// Whether rows i and j are the same but for byte p.
-fn same_rest(rows: &[u8], count: usize, p: usize, i: usize, j: usize) -> bool
-    requires { ⌜ Flat (now rows) count × (i < count) × (j < count) ⌝ }
-    ensures { λ r. ⌜ (r ≡ true) ↔ SameRest (now (rows .entry)) p i j ⌝ }
+// A word without its argument p.
+fn rest_of(w: u64, p: u64) -> u64
+    requires { ⌜ p < 3 ⌝ }
+    ensures { λ r. ⌜ r ≡ restOf w p ⌝ }
 {
-    let mut k: usize = 0;
-    while k < 5 {
-        if k != p {
-            if rows[i * 5 + k] != rows[j * 5 + k] {
-                return false;
-            }
-        }
-        k += 1;
-    }
-    true
+    w - (class_at(w, p) << (8 * p))
 }
 
-// The classes in byte p of the rows that are else the same as row i.
-fn standing(rows: &[u8], count: usize, p: usize, i: usize) -> u64
-    requires { ⌜ Flat (now rows) count × (p < 5) × (i < count) ⌝ }
-    ensures { λ r. ⌜ Standing (now (rows .entry)) count p i r ⌝ }
+// The classes that are argument p of the words with this rest, from a place to an end.
+fn standing(words: &[u64; 128], from: usize, end: usize, p: u64, rest: u64) -> u64
+    requires { ⌜ (from ≤ end) × (end ≤ 128) × (p < 3) ⌝ }
+    ensures { λ r. ⌜ Standing (now (words .entry)) from end p rest r ⌝ }
 {
     let mut set: u64 = 0;
-    let mut j: usize = 0;
-    while j < count {
-        if same_rest(rows, count, p, i, j) {
-            set = with(set, wide(rows[j * 5 + p]));
+    let mut j = from;
+    while j < end {
+        let w = words[j];
+        if rest_of(w, p) == rest {
+            set = with(set, class_at(w, p));
         }
         j += 1;
     }
@@ -80,129 +72,149 @@ fn narrow(mask: u64, set: u64, d: u64) -> u64
     }
 }
 
-// The 64 words from a place on narrowed by the set.
-fn narrow_all(groups: &mut [u64], from: usize, set: u64)
-    requires { ⌜ from + 64 ≤ length (now groups) ⌝ }
-    ensures { λ r. ⌜ NarrowedTo set (now (groups .entry)) from 64 (now (groups .exit)) ⌝ }
+// Every mask narrowed by the set.
+fn narrow_all(same: &mut [u64; 64], set: u64)
+    requires { ⌜ length (now same) ≡ 64 ⌝ }
+    ensures { λ r. ⌜ NarrowedTo set (now (same .entry)) 64 (now (same .exit)) ⌝ }
 {
     let mut d: usize = 0;
     while d < 64 {
-        groups[from + d] = narrow(groups[from + d], set, d as u64);
+        same[d] = narrow(same[d], set, d as u64);
         d += 1;
     }
 }
 
-// All classes in every word.
-fn fill(groups: &mut [u64])
-    ensures { λ r. ⌜ length (now (groups .exit)) ≡ length (now (groups .entry)) ⌝ }
+// The masks narrowed, for each word of the symbol f with a wanted target, by the classes that may stand for its argument p.
+fn narrow_place<'a>(
+    words: &'a [u64; 128],
+    heads: &'a [u8; 65],
+    f: u8,
+    p: u64,
+    wanted: u64,
+    same: &mut [u64; 64],
+)
+    requires { ⌜ PlaceGiven (now words) (now heads) f p × (length (now same) ≡ 64) ⌝ }
+    ensures { λ r. ⌜ PlaceNarrowed (now (words .entry)) (now (heads .entry)) f p wanted (now (same .entry)) (now (same .exit)) ⌝ }
 {
-    let mut k: usize = 0;
-    while k < groups.len() {
-        groups[k] = ALL;
-        k += 1;
-    }
-}
-
-// The words of argument p of every symbol narrowed by each row.
-fn group_place(rows: &[u8], count: usize, p: usize, groups: &mut [u64])
-    requires { ⌜ Flat (now rows) count × (p < 3) × (length (now groups) ≡ 12288) ⌝ }
-    ensures { λ r. ⌜ SortedTo (now (rows .entry)) count p count (now (groups .entry)) (now (groups .exit)) ⌝ }
-{
-    let mut i: usize = 0;
-    while i < count {
-        let from = (place(rows[i * 5]) * 3 + p) * 64;
-        narrow_all(groups, from, standing(rows, count, p + 1, i));
+    let at = place(f);
+    let end = place(heads[at + 1]);
+    let from = place(heads[at]);
+    let mut i = from;
+    while i < end {
+        let w = words[i];
+        let target = class_at(w, 3);
+        if has(wanted, target) {
+            narrow_all(same, standing(words, from, end, p, rest_of(w, p)));
+        }
         i += 1;
     }
 }
 
-// The groups of a table: all classes at a place where no row has a class.
-pub fn group(rows: &[u8], count: usize, groups: &mut [u64])
-    requires { ⌜ Flat (now rows) count × (length (now groups) ≡ 12288) ⌝ }
-    ensures { λ r. ⌜ ((arities : List ℕ) → Grouped (movesOf arities (now (rows .entry)) count) (now (groups .exit))) ⌝ }
+// The classes that are argument p of the words of the symbol f with a wanted target.
+fn called<'a>(words: &'a [u64; 128], heads: &'a [u8; 65], f: u8, p: u64, wanted: u64) -> u64
+    requires { ⌜ PlaceGiven (now words) (now heads) f p ⌝ }
+    ensures { λ r. ⌜ ((arities : List ℕ) → Calls (wovenMoves arities (now (words .entry)) (getD (now (heads .entry)) 64 0)) wanted f p r) ⌝ }
 {
-    fill(groups);
-    group_place(rows, count, 0, groups);
-    group_place(rows, count, 1, groups);
-    group_place(rows, count, 2, groups);
+    let at = place(f);
+    let end = place(heads[at + 1]);
+    let mut i = place(heads[at]);
+    let mut set: u64 = 0;
+    while i < end {
+        let w = words[i];
+        if has(wanted, class_at(w, 3)) {
+            set = with(set, class_at(w, p));
+        }
+        i += 1;
+    }
+    set
 }
 
 // How many subterms follow a token.
 fn rank_of(arities: &[u8], token: u8) -> usize
     ensures { λ r. ⌜ r ≡ rank (now (arities .entry)) token ⌝ }
 {
-    let f = place(token);
-    if f < 64 {
-        if f < arities.len() {
-            return place(arities[f]);
-        }
-    }
-    0
-}
-
-// Each mask without the classes that are not in its word among the 64 from a place on.
-fn join(groups: &[u64], from: usize, same: &mut [u64; 64])
-    requires { ⌜ (from + 64 ≤ length (now groups)) × (length (now same) ≡ 64) ⌝ }
-    ensures { λ r. ⌜ JoinedTo (now (groups .entry)) from (now (same .entry)) 64 (now (same .exit)) ⌝ }
-{
-    let mut d: usize = 0;
-    while d < 64 {
-        same[d] = same[d] & groups[from + d];
-        d += 1;
+    if token < 64 {
+        place(arity(arities, token))
+    } else {
+        0
     }
 }
 
-// The masks joined with the words of argument p of the symbol f, if the token there is the variable x.
-fn join_token(groups: &[u64], x: u8, token: u8, f: u8, p: usize, same: &mut [u64; 64])
-    requires { ⌜ TokenGiven (now groups) x f p (now same) ⌝ }
-    ensures { λ r. ⌜ TokenJoined (now (groups .entry)) x token f p (now (same .entry)) (now (same .exit)) ⌝ }
+// The masks narrowed at the first of the arguments, if the token there is the variable x.
+fn join_token<'a>(
+    words: &'a [u64; 128],
+    heads: &'a [u8; 65],
+    x: u8,
+    token: u8,
+    here: Arguments,
+    same: &mut [u64; 64],
+)
+    requires { ⌜ TokenGiven (now words) (now heads) x here × (length (now same) ≡ 64) ⌝ }
+    ensures { λ r. ⌜ TokenJoined (now (words .entry)) (now (heads .entry)) x token here (now (same .entry)) (now (same .exit)) ⌝ }
 {
     if token == x + 64 {
-        join(groups, (place(f) * 3 + p) * 64, same);
+        narrow_place(words, heads, here.symbol, here.first, here.wanted, same);
     }
 }
 
-// The masks joined for each argument of the symbol f that is left, from argument p on, and for the terms within; returns the place after them.
-// Each call has fewer tokens left.
+// The masks narrowed for each of the arguments, and for the terms within; returns the place after them. Each call has fewer tokens left.
 fn join_row<'a>(
-    groups: &'a [u64],
+    words: &'a [u64; 128],
+    heads: &'a [u8; 65],
     arities: &'a [u8],
     tokens: &'a [u8],
     x: u8,
-    f: u8,
-    p: usize,
-    left: usize,
+    here: Arguments,
     at: usize,
     same: &mut [u64; 64],
 ) -> usize
-    requires { ⌜ RowGiven (now groups) (now arities) (now tokens) x f p left at × (length (now same) ≡ 64) ⌝ }
-    ensures { λ r. ⌜ RowJoined (now (groups .entry)) (now (arities .entry)) (now (tokens .entry)) x f p left at (now (same .entry)) (now (same .exit)) r ⌝ }
+    requires { ⌜ RowGiven (now words) (now heads) (now arities) (now tokens) x here at × (length (now same) ≡ 64) ⌝ }
+    ensures { λ r. ⌜ RowJoined (now (words .entry)) (now (heads .entry)) (now (arities .entry)) (now (tokens .entry)) x here at
+        (now (same .entry)) (now (same .exit)) r ⌝ }
 {
-    if left == 0 {
+    if here.left == 0 {
         return at;
     }
     let token = tokens[at];
-    join_token(groups, x, token, f, p, same);
-    let within = rank_of(arities, token);
-    let next = join_row(groups, arities, tokens, x, token, 0, within, at + 1, same);
-    join_row(groups, arities, tokens, x, f, p + 1, left - 1, next, same)
+    join_token(words, heads, x, token, here, same);
+    let inner = Arguments {
+        symbol: token,
+        first: 0,
+        left: rank_of(arities, token),
+        wanted: called(words, heads, here.symbol, here.first, here.wanted),
+    };
+    let next = join_row(words, heads, arities, tokens, x, inner, at + 1, same);
+    let others = Arguments {
+        symbol: here.symbol,
+        first: here.first + 1,
+        left: here.left - 1,
+        wanted: here.wanted,
+    };
+    join_row(words, heads, arities, tokens, x, others, next, same)
 }
 
-// The masks joined for each place of x in the term at a place.
+// The masks narrowed for each place of x in the term at a place.
 fn join_side<'a>(
-    groups: &'a [u64],
+    words: &'a [u64; 128],
+    heads: &'a [u8; 65],
     arities: &'a [u8],
     tokens: &'a [u8],
     x: u8,
     at: usize,
     same: &mut [u64; 64],
 )
-    requires { ⌜ SideGiven (now groups) (now arities) (now tokens) x at × (length (now same) ≡ 64) ⌝ }
-    ensures { λ r. ⌜ SideJoined (now (groups .entry)) (now (arities .entry)) (now (tokens .entry)) x at (now (same .entry)) (now (same .exit)) ⌝ }
+    requires { ⌜ SideGiven (now words) (now heads) (now arities) (now tokens) x at × (length (now same) ≡ 64) ⌝ }
+    ensures { λ r. ⌜ SideJoined (now (words .entry)) (now (heads .entry)) (now (arities .entry)) (now (tokens .entry)) x at
+        (now (same .entry)) (now (same .exit)) ⌝ }
 {
     let token = tokens[at];
-    let within = rank_of(arities, token);
-    join_row(groups, arities, tokens, x, token, 0, within, at + 1, same);
+    let inner = Arguments {
+        symbol: token,
+        first: 0,
+        left: rank_of(arities, token),
+        wanted: ALL,
+    };
+    join_row(words, heads, arities, tokens, x, inner, at + 1, same);
 }
 
 // The classes in whose masks no smaller class is.
@@ -222,20 +234,23 @@ fn leaders(same: &[u64; 64]) -> u64
 }
 
 // The classes of the variable x that have to be looked at: for every other one a smaller class gives both sides of the rule the same value.
-// All of them where no groups were made (an empty slice) or the right side is a bare variable.
-pub fn needed<'a>(groups: &'a [u64], arities: &'a [u8], tokens: &'a [u8], x: u8) -> u64
-    requires { ⌜ RuleGiven (now arities) (now tokens) x ⌝ }
-    ensures { λ r. ⌜ Enough (now (groups .entry)) (now (arities .entry)) (now (tokens .entry)) x r ⌝ }
+// All of them where the right side is a bare variable.
+pub fn needed<'a>(
+    words: &'a [u64; 128],
+    heads: &'a [u8; 65],
+    arities: &'a [u8],
+    tokens: &'a [u8],
+    x: u8,
+) -> u64
+    requires { ⌜ RuleGiven (now words) (now heads) (now arities) (now tokens) x ⌝ }
+    ensures { λ r. ⌜ Enough (now (words .entry)) (now (heads .entry)) (now (arities .entry)) (now (tokens .entry)) x r ⌝ }
 {
-    if groups.len() != GROUPS {
-        return ALL;
-    }
     let head = tokens[24];
     if 64 <= head {
         return ALL;
     }
     let mut same = [ALL; 64];
-    join_side(groups, arities, tokens, x, 0, &mut same);
-    join_side(groups, arities, tokens, x, 24, &mut same);
+    join_side(words, heads, arities, tokens, x, 0, &mut same);
+    join_side(words, heads, arities, tokens, x, 24, &mut same);
     leaders(&same)
 }

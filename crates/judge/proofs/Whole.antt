@@ -20,9 +20,8 @@ use Rattle.woven.specs.Woven.{Flat, Indexed, SameMoves}
 use Rattle.woven.proofs.Members.{examine-same}
 use Rattle.lanes.specs.Automaton.{automatonOf}
 use Rattle.search.specs.Searched.{Searchable}
-use Rattle.alike.proofs.Groups.{grouped-same}
 use Rattle.judge.specs.Merged.{Merged}
-use Rattle.judge.specs.Judged.{mergedOf, badOf, GroupedBy}
+use Rattle.judge.specs.Judged.{mergedOf, badOf}
 use Rattle.judge.proofs.Bridge.{few-initial, few-states, rank, moves-merged}
 
 -- Every argument of a merged transition is a class.
@@ -64,9 +63,9 @@ module _ (t : Tables) (m : Merging) (s : Sound t m) where
       few-rules = omega (arith, s .well .most-rules, length-map (countFrom 0 (t .rules .count)) (Rattle.tables.specs.Held.ruleAt ar (t .rules)), length-count 0 (t .rules .count))
 
       -- The search relies on nothing else.
-      pub searchable : (groups : List ℕ) → GroupedBy t bytes groups → Searchable ar words heads (t .rules) (m .classes) groups
+      pub searchable : Searchable ar words heads (t .rules) (m .classes)
       unfolding held classes automatonOf
-      searchable groups grouped = record {
+      searchable = record {
         indexed = indexed;
         in-range = inside;
         arguments = λ tr n c l. omega (arith, s .classes, arguments-low (mergeOf t m) (tableOf ar (t .initial)) tr (there tr n) c l);
@@ -77,7 +76,6 @@ module _ (t : Tables) (m : Merging) (s : Sound t m) where
         most-rules = few-rules;
         some-class = omega (arith, s .classes);
         most-classes = omega (arith, few-states t m s .2);
-        grouped = λ long. grouped-same (same .same ar) (grouped long ar);
       }
 
       -- What it says is what the paper says of the merged automaton.

@@ -2,7 +2,6 @@
 pub mod merging;
 pub mod suitable;
 
-use alike::group;
 use merging::Rows;
 use merging::merged_rows;
 use search::search;
@@ -35,10 +34,8 @@ fn merged_of(t: Tables, m: Merging) -> Rows
     merged_rows(&rows, &merge, initial.count)
 }
 
-// How many classes are few: then there is little to pass over, and no groups of alike classes are made.
-const FEW: usize = 8;
-
-// The first critical pair of the merged automaton, whose rows are `merged`, within the budget. A class takes 52 rows of values.
+// The first critical pair of the merged automaton, whose rows are `merged`, within the budget. A class takes 52 rows of values, so for few classes few
+// are made: setting them to 0 is most of what the search of a small certificate costs.
 pub fn first_critical(t: Tables, m: Merging, merged: Rows) -> Closure
     requires { ⌜ Sound t m ⌝ }
     requires { ⌜ Merged (t .initial .rows) (m .merge) (t .initial .count * 5) (merged .bytes) ⌝ }
@@ -48,37 +45,24 @@ pub fn first_critical(t: Tables, m: Merging, merged: Rows) -> Closure
     let rules = t.rules;
     let arities = t.arities;
     let bytes = merged.bytes;
-    let woven = weave(&bytes, initial.count);
-    let words = woven.words;
-    let heads = woven.heads;
+    let mut words = [0u64; 128];
+    let heads = weave(&bytes, initial.count, &mut words);
     let k = m.classes;
-    if k <= FEW {
-        let none = [0u64; 0];
-        let mut few = [[0u64; 8]; 416];
-        return search(
-            &words,
-            &heads,
-            &arities[..t.symbols],
-            rules,
-            k,
-            t.budget,
-            &none,
-            &mut few,
-        );
+    let listed = &arities[..t.symbols];
+    if k <= 3 {
+        let mut rows = [[0u64; 8]; 156];
+        return search(&words, &heads, listed, rules, k, t.budget, &mut rows);
     }
-    let mut groups = [0u64; 12288];
-    group(&bytes, initial.count, &mut groups);
-    let mut many = [[0u64; 8]; 3328];
-    search(
-        &words,
-        &heads,
-        &arities[..t.symbols],
-        rules,
-        k,
-        t.budget,
-        &groups,
-        &mut many,
-    )
+    if k <= 6 {
+        let mut rows = [[0u64; 8]; 312];
+        return search(&words, &heads, listed, rules, k, t.budget, &mut rows);
+    }
+    if k <= 12 {
+        let mut rows = [[0u64; 8]; 624];
+        return search(&words, &heads, listed, rules, k, t.budget, &mut rows);
+    }
+    let mut rows = [[0u64; 8]; 3328];
+    search(&words, &heads, listed, rules, k, t.budget, &mut rows)
 }
 
 // The first question, of the tables and the merging: the first final pair that shares a tree.

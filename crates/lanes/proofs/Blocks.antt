@@ -2,7 +2,7 @@
 use mathlib.Core.Path.{_≡_, refl, sym, ap, ap₂, _∙_}
 use mathlib.Core.Bool.{Bool}
 use mathlib.Core.List.{List}
-use Prim.Native.Nat.{ℕ, zero, suc, _+_, _-_, _*_, _^_, _≤_, _<_, max, min}
+use Prim.Native.Nat.{ℕ, zero, suc, _+_, _-_, _*_, _^_, _≤_, _<_}
 use native.Mathlib.Nat.{pow-zero, mul-le-mul}
 use native.Mathlib.Decide.{decLt}
 use native.Mathlib.Omega.{arith}
@@ -18,17 +18,17 @@ use Rattle.values.specs.Lanes.{given}
 use Rattle.values.specs.Standing.{Each}
 use Rattle.values.proofs.Spanned.{each-then}
 use Rattle.lanes.specs.Prefixes.{rest, chosen}
-use Rattle.lanes.specs.Blocks.{differ, Touched, Fixed, Paired, BothTouched, Judgeable, Compared, Block}
+use Rattle.lanes.specs.Blocks.{differ, Touched, Fixed, Paired, BothTouched, Judgeable, Compared, Prefix, BeforeLast, Block}
 use Rattle.lanes.specs.Automaton.{automatonOf}
 use Rattle.lanes.proofs.Coded.{critical-lane}
-use Rattle.lanes.proofs.Numbers.{pow-1}
+use Rattle.lanes.proofs.Numbers.{rest-last}
 use Rattle.lanes.proofs.Stays.{given-stays}
 
 -- A lane of a block is below k.
 lane-class : (k v j : ℕ) → 1 ≤ k → v ≤ 4 → j < k ^ rest v 3 → j < k
 unfolding rest
 lane-class k zero j some few h = omega (arith, pow-zero k)
-lane-class k (suc v) j some few h = let one : max (suc v - 3) (min (suc v) 1) ≡ 1 = omega arith in omega (arith, ap (λ n. k ^ n) one, pow-1 k)
+lane-class k (suc v) j some few h = omega (arith, rest-last k v few)
 
 -- The substitution in lane j, the classes of the first variables being the first of xs.
 abbrev pub inLane : (v : ℕ) → List ℕ → ℕ → List ℕ
@@ -74,42 +74,44 @@ placed-one {k = k} {v = v} {xs = xs} {after = after} few paired touched = record
     exact (suc zero) few j h (suc x) low = absurd (omega arith)
     exact (suc (suc v)) few j h x low = absurd (omega arith)
 
--- The classes of the variables before the last two, and the first lane's number of a block.
-pub front-long : (v : ℕ) (xs : List ℕ) → v ≤ 4 → length xs ≡ 3 → length (take (v - 2) xs) ≡ v - 2
-front-long v xs few long = length-take-le (v - 2) xs (omega arith)
+-- The classes of the variables before the last two.
+module _ {k v : ℕ} {xs : List ℕ} (before : BeforeLast k v xs) where
+  pub front-long : length (take (v - 2) xs) ≡ v - 2
+  front-long = length-take-le (v - 2) xs (omega arith)
 
-pub front-low : (k v : ℕ) (xs : List ℕ) → v ≤ 4 → length xs ≡ 3 → ((i : ℕ) → getD xs i 0 < k) → (x : ℕ) → x < length (take (v - 2) xs) → getD (take (v - 2) xs) x 0 < k
-front-low k v xs few long low x h = omega (arith, getD-take (v - 2) xs x 0 (omega (arith, front-long v xs few long)), low x)
+  pub front : Prefix k 4 (take (v - 2) xs)
+  front = record { few = omega (arith, front-long); low = λ x h. omega (arith, getD-take (v - 2) xs x 0 (omega (arith, front-long)), before .low x) }
 
+-- The first lane's number of a block.
 pub start-low : {k x : ℕ} → x < k → k ≤ 64 → x * k ≤ 4032
 start-low {k = k} {x = x} h most = let low : x ≤ 63 = omega arith in mul-le-mul low most
 
 -- Two or more: those before the last two are fixed, and of these two the first has its class in every lane.
-module _ (k v : ℕ) (xs : List ℕ) {m mid after : List (List ℕ)} (many : 2 ≤ v) (few : v ≤ 4) (long : length xs ≡ 3) (most : k ≤ 64) (low : (i : ℕ) → getD xs i 0 < k)
+module _ (k v : ℕ) (xs : List ℕ) {m mid after : List (List ℕ)} (many : 2 ≤ v) (most : k ≤ 64) (before : BeforeLast k v xs)
     (fixed : Fixed k mid (take (v - 2) xs)) (fixing : Touched k 0 (length (take (v - 2) xs)) m mid)
     (paired : Paired k after (v - 2) (v - 1) (getD xs (v - 2) 0 * k) k) (touched : BothTouched k (v - 2) (v - 1) mid after) where
   first-ones : (j : ℕ) → j < k → (x : ℕ) → x < v - 2 → given k after j x ≡ plus none (getD xs x 0)
   first-ones j h x l =
       given-stays k mid after x j (λ q hq. touched .others x q (omega arith) hq (λ e. omega arith) (λ e. omega arith))
-      ∙ fixed .each x j (omega (arith, front-long v xs few long)) (omega arith) ∙ ap (plus none) (getD-take (v - 2) xs x 0 l)
+      ∙ fixed .each x j (omega (arith, front-long before)) (omega arith) ∙ ap (plus none) (getD-take (v - 2) xs x 0 l)
 
   pub placed-more : Placed k v xs m after
   placed-more = record { long = touched .long ∙ fixing .long; exact = exact }
     where
       high : (j : ℕ) → j < k → given k after j (v - 2) ≡ plus none (getD xs (v - 2) 0)
-      high j h = paired .high (getD xs (v - 2) 0) j j (low (v - 2)) h h refl
+      high j h = paired .high (getD xs (v - 2) 0) j j (before .low (v - 2)) h h refl
 
       last : (j : ℕ) → j < k → given k after j (v - 1) ≡ plus none j
-      last j h = paired .low (getD xs (v - 2) 0) j j (low (v - 2)) h h refl
+      last j h = paired .low (getD xs (v - 2) 0) j j (before .low (v - 2)) h h refl
 
       exact : (j : ℕ) → j < k → (x : ℕ) → x < v → given k after j x ≡ plus none (entry (inLane v xs j) x)
       exact j h x hx = elim (decLt (x + 1) v) [
-        | yes before ↦
+        | yes earlier ↦
             elim (decLt x (v - 2)) [
               | yes early ↦ first-ones j h x early
               | no late ↦ let e : x ≡ v - 2 = omega arith in ap (given k after j) e ∙ high j h ∙ ap (λ i. plus none (getD xs i 0)) (sym e)
             ]
-            ∙ ap (plus none) (sym (chosen-before xs j v x few before))
+            ∙ ap (plus none) (sym (chosen-before xs j v x (before .few) earlier))
         | no end ↦
             let e : x ≡ v - 1 = omega arith in
             let f : v ≡ x + 1 = omega arith in

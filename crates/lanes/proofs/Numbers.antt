@@ -40,6 +40,10 @@ pub rest-all : (v : ℕ) → rest v 0 ≡ v
 unfolding rest
 rest-all v = omega arith
 
+pub rest-last : (k v : ℕ) → suc v ≤ 4 → k ^ rest (suc v) 3 ≡ k
+unfolding rest
+rest-last k v h = let one : max (suc v - 3) (min (suc v) 1) ≡ 1 = omega arith in ap (λ n. k ^ n) one ∙ pow-1 k
+
 module _ (k v i : ℕ) where
   -- The variable i is one before the last, or it is not.
   pub choices-in : i + 1 < v → choices k v i ≡ k
@@ -75,6 +79,4 @@ module _ (k v i : ℕ) where
 pub lane-low : (k v j : ℕ) → k ≤ 64 → v ≤ 4 → j < k ^ rest v 3 → (j < 64) × (v ≡ 0 → j ≡ 0)
 unfolding rest
 lane-low k zero j h l b = (omega (arith, pow-zero k), λ e. omega (arith, pow-zero k))
-lane-low k (suc v) j h l b =
-    let one : max (suc v - 3) (min (suc v) 1) ≡ 1 = omega arith in
-    (omega (arith, ap (λ n. k ^ n) one, pow-1 k), λ e. absurd (omega arith))
+lane-low k (suc v) j h l b = (omega (arith, rest-last k v l), λ e. absurd (omega arith))

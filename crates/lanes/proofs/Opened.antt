@@ -1,31 +1,27 @@
 -- Which masks of classes are open: all of them, none, those that are alive and needed, and those that a sweep finds.
-use mathlib.Core.Path.{_≡_, sym, ap, _∙_}
-use mathlib.Core.Bool.{true, false}
+use mathlib.Core.Path.{_≡_, sym, _∙_}
+use mathlib.Core.Bool.{false}
 use mathlib.Core.Logic.{_⊎_, inl, inr, ⊎-elim}
 use mathlib.Core.List.{List, [], _∷_, _++_}
 use Prim.Native.Nat.{ℕ, _+_, _≤_, _<_}
 use native.Mathlib.Omega.{arith}
 use lib.Bits.{bitAnd}
 use lib.ListN.{length}
-use borrow.Author.Tests.{lt-ltb}
 use Rattle.theory.specs.Rewriting.{Rule}
 use Rattle.theory.specs.Automaton.{Automaton}
 use Rattle.theory.proofs.Bools.{and-on, not-both}
 use Rattle.paper.proofs.Smallest.{decided}
-use Rattle.sets.specs.Sets.{Set, mem}
-use Rattle.sets.proofs.Laws.{mem-and, mem-below}
+use Rattle.sets.specs.Sets.{mem}
+use Rattle.sets.proofs.Laws.{mem-and, mem-all}
 use Rattle.lanes.specs.Blocks.{Calm, CalmAll, Alive, Swept, Open}
 use Rattle.lanes.proofs.Calm.{calm-more}
 
 module _ (M : Automaton) (rule : Rule) (v : ℕ) (xs : List ℕ) (needed : ℕ) where
   pub open-all : M .states ≤ 64 → Open M rule v xs needed 18446744073709551615
   open-all most = record {
-    early = λ y hy e. not-both (mem 18446744073709551615 y) (full y hy) e;
-    passed = λ y hy e. not-both (mem 18446744073709551615 y) (full y hy) e;
+    early = λ y hy e. not-both (mem 18446744073709551615 y) (mem-all y (omega arith)) e;
+    passed = λ y hy e. not-both (mem 18446744073709551615 y) (mem-all y (omega arith)) e;
   }
-    where
-      full : (y : ℕ) → y < M .states → mem 18446744073709551615 y ≡ true
-      full y hy = ap (λ (s : Set). s y) (mem-below 64) ∙ lt-ltb y 64 (omega arith)
 
   pub open-none : v ≡ length xs + 2 → CalmAll M rule xs → Open M rule v xs needed 0
   open-none is calm = record {

@@ -4,6 +4,7 @@ use mathlib.Core.Logic.{_⊎_, inl, inr}
 use mathlib.Core.List.{List, []}
 use Prim.Native.Nat.{ℕ, suc, _+_, _*_, _≤_, _<_}
 use native.Mathlib.Nat.{mul-le-mul-right}
+use native.Mathlib.Decide.{decLt}
 use native.Mathlib.Omega.{arith}
 use lib.ListN.{length, getD}
 use Rattle.values.specs.Lanes.{given}
@@ -25,6 +26,10 @@ module _ (k : ℕ) (m after : List (List ℕ)) where
   pub touched-rows : (first last : ℕ) → Touched k first last m after → (x : ℕ) → (x < first) ⊎ (last ≤ x) → SameRows x
   touched-rows first last t x (inl h) q hq = t .same ((48 + x) * k + q) (inl (omega (arith, mul-le-mul-right {m = suc x} {n = first} k h)))
   touched-rows first last t x (inr h) q hq = t .same ((48 + x) * k + q) (inr (omega (arith, mul-le-mul-right {m = last} {n = x} k h)))
+
+  -- Rows of another variable.
+  pub other-rows : (own : ℕ) → Touched k own (own + 1) m after → (x : ℕ) → (x ≡ own → ⊥) → SameRows x
+  other-rows own t x ne = touched-rows own (own + 1) t x (elim (decLt x own) [ yes h ↦ inl h | no nh ↦ inr (omega arith) ])
 
   pub untouched-rows : Untouched k m after → (x : ℕ) → SameRows x
   untouched-rows u x q hq = u .same ((48 + x) * k + q) (omega arith)

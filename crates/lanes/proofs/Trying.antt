@@ -22,14 +22,14 @@ use Rattle.values.proofs.Spanned.{spanned-same, each-then}
 use Rattle.values.proofs.Keeping.{kept-near}
 use Rattle.lanes.specs.Blocks.{Touched, Fixed, Paired, Untouched, differ, withOwn, Others}
 use Rattle.lanes.proofs.Calm.{Laid}
-use Rattle.lanes.proofs.Stays.{SameRows, given-stays, touched-rows, untouched-rows}
+use Rattle.lanes.proofs.Stays.{given-stays, other-rows, untouched-rows}
 
 -- The set of the variable `own`, and those of the others.
 module _ (k own : ℕ) (m : List (List ℕ)) (y l : ℕ) where
-  pub own-set : (x : ℕ) → x ≡ own → withOwn k own m y l x ≡ plus none y
+  own-set : (x : ℕ) → x ≡ own → withOwn k own m y l x ≡ plus none y
   own-set x e = ap (λ (b : Bool). cond b (plus none y) (given k m l x)) (eq-eqb x own e)
 
-  pub other-set : (x : ℕ) → (x ≡ own → ⊥) → withOwn k own m y l x ≡ given k m l x
+  other-set : (x : ℕ) → (x ≡ own → ⊥) → withOwn k own m y l x ≡ given k m l x
   other-set x ne = ap (λ (b : Bool). cond b (plus none y) (given k m l x)) (ne-eqb x own ne)
 
 -- With the prefix fixed and the next two variables paired behind `own`, the lanes are laid for the prefix and the class y.
@@ -108,24 +108,17 @@ module _ {Δ : List Transition} {arities tokens : List ℕ} {k own live found : 
           outside i (inl h) = inl h
           outside i (inr h) = inr (omega arith)
 
-      -- Rows of another variable stay.
-      other-rows : (z : ℕ) → (z ≡ own → ⊥) → SameRows k m fresh z
-      other-rows z ne = touched-rows k m fresh own (own + 1) touched z (elim (decLt z own) [ yes h ↦ inl h | no nh ↦ inr (above nh) ])
-        where
-          above : (z < own → ⊥) → own + 1 ≤ z
-          above nh = elim (decLt own z) [ yes h ↦ omega arith | no nl ↦ absurd (ne (omega arith)) ]
-
       module _ (fixed : (l : ℕ) → l < 512 → given k fresh l own ≡ plus none x) (after : List (List ℕ)) (untouched : Untouched k fresh after) where
         fresh-sets : (l : ℕ) → l < 512 → (z : ℕ) → z < 4 → withOwn k own m₀ x l z ≡ given k fresh l z
         fresh-sets l hl z hz = elim (ℕ-discrete z own) [
           | yes e ↦ own-set k own m₀ x l z e ∙ sym (ap (given k fresh l) e ∙ fixed l hl)
-          | no ne ↦ other-set k own m₀ x l z ne ∙ sym (given-stays k m fresh z l (other-rows z ne) ∙ given-stays k m₀ m z l (λ q hq. old .others .rows z q hz hq ne))
+          | no ne ↦ other-set k own m₀ x l z ne ∙ sym (given-stays k m fresh z l (other-rows k m fresh own touched z ne) ∙ given-stays k m₀ m z l (λ q hq. old .others .rows z q hz hq ne))
         ]
 
         after-others : Others k own m₀ after
         after-others = record {
           long = untouched .long ∙ touched .long ∙ old .others .long;
-          rows = λ z q hz hq ne. untouched-rows k fresh after untouched z q hq ∙ other-rows z ne q hq ∙ old .others .rows z q hz hq ne;
+          rows = λ z q hz hq ne. untouched-rows k fresh after untouched z q hq ∙ other-rows k m fresh own touched z ne q hq ∙ old .others .rows z q hz hq ne;
         }
 
         module _ (after-ends : List ℕ) (kept : Kept Δ arities tokens k near after after-ends) where

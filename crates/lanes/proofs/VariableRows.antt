@@ -1,38 +1,27 @@
 -- The variables' blocks: where they lie, what their rows say of the sets in the lanes, and how a class for each lane gets into one of them.
-use mathlib.Core.Path.{_≡_, refl, sym, ap, subst, _∙_, fun-ext}
-use mathlib.Core.Bool.{true, false, _&&_, _||_, or-false}
+use mathlib.Core.Path.{_≡_, refl, sym, ap, _∙_, fun-ext}
+use mathlib.Core.Bool.{false, _&&_, _||_, or-false}
 use mathlib.Core.Logic.{_⊎_, inl, inr}
 use mathlib.Core.List.{List, []}
-use Prim.Native.Nat.{ℕ, suc, _+_, _*_, _^_, _/_, _%_, _≤_, _<_}
+use Prim.Native.Nat.{ℕ, _+_, _*_, _^_, _/_, _%_, _≤_, _<_}
 use native.Mathlib.Nat.{suc-mul, mul-le-mul-right, div-add-mod', div-le-self, mod-lt}
 use native.Mathlib.Decide.{decLt, ℕ-discrete}
 use native.Mathlib.Omega.{arith}
 use lib.Arith.{digits-div, digits-mod}
 use lib.Bits.{bitOr}
 use lib.Dec.{eqb, ltb}
-use lib.ListN.{length, getD, set, replicate, length-set, length-replicate, getD-replicate}
+use lib.ListN.{length, getD, set, length-set, length-replicate}
 use lib.Seq.{getD-set-same, getD-set-other}
 use borrow.Author.Tests.{lt-ltb, le-ltb, eq-eqb, ne-eqb}
 use Rattle.sets.specs.Sets.{Set, mem, none, plus, under}
-use Rattle.sets.proofs.Laws.{mem-zero, mem-with, mem-below}
+use Rattle.sets.proofs.Laws.{mem-with}
 use Rattle.theory.proofs.Bools.{and-on, and-off}
 use Rattle.values.specs.Lanes.{lit, given}
 use Rattle.values.specs.Rows.{Within}
+use Rattle.values.proofs.Blocks.{room, same-wider, same-within, same-then}
+use Rattle.values.proofs.Rows.{none-lit, ones, all-lit, row-within}
 use Rattle.lanes.specs.Blocks.{Roomy, Touched, Full, Lighted, Paired, BothTouched}
-
--- The word in which every lane is lit.
-abbrev ones : ℕ
-ones = 18446744073709551615
-
--- A lane of a row of equal words.
-pub filled-lane : (w l : ℕ) → l < 512 → lit (replicate 8 w) l ≡ mem w (l % 64)
-filled-lane w l h = ap (λ n. mem n (l % 64)) (getD-replicate {A = ℕ} 8 (l / 64) w 0 (omega arith))
-
-pub no-lane : (l : ℕ) → l < 512 → lit (replicate 8 0) l ≡ false
-no-lane l h = filled-lane 0 l h ∙ ap (λ (s : Set). s (l % 64)) mem-zero
-
-pub every-lane : (l : ℕ) → l < 512 → lit (replicate 8 ones) l ≡ true
-every-lane l h = filled-lane ones l h ∙ ap (λ (s : Set). s (l % 64)) (mem-below 64) ∙ lt-ltb (l % 64) 64 (omega arith)
+use Rattle.lanes.proofs.Stays.{SameRows, given-stays, touched-rows, other-rows}
 
 -- One lane of a row is lit.
 module _ (row : List ℕ) (l : ℕ) (wide : length row ≡ 8) (low : l < 512) where
@@ -46,7 +35,7 @@ module _ (row : List ℕ) (l : ℕ) (wide : length row ≡ 8) (low : l < 512) wh
     | no not ↦ ne-eqb (l % 64) (j % 64) (λ s. not (omega arith)) ∙ sym (ne-eqb l j not)
   ]
 
-  pub one-lane : (j : ℕ) → lit with-lane j ≡ (lit row j || eqb l j)
+  one-lane : (j : ℕ) → lit with-lane j ≡ (lit row j || eqb l j)
   one-lane j = elim (ℕ-discrete (j / 64) (l / 64)) [
     | yes e ↦
         ap (λ n. mem n (j % 64)) (ap (λ i. getD with-lane i 0) e ∙ getD-set-same row (l / 64) _ 0 (omega arith))
@@ -70,82 +59,51 @@ lighted m i l inside wide low =
     }
 
 module _ (k : ℕ) where
-  -- A block ends where the next one begins.
-  block-next : (x : ℕ) → (48 + (x + 1)) * k ≡ (48 + x) * k + k
-  block-next x = let e : 48 + (x + 1) ≡ suc (48 + x) = omega arith in ap (λ n. n * k) e ∙ suc-mul (48 + x) k
-
-  pub block-order : (x y : ℕ) → x ≤ y → (48 + x) * k ≤ (48 + y) * k
-  block-order x y h = mul-le-mul-right k (omega arith)
-
-  pub block-before : (x y : ℕ) → x < y → (48 + x) * k + k ≤ (48 + y) * k
-  block-before x y h = omega (arith, block-next x, block-order (x + 1) y (omega arith))
-
   pub block-room : (x : ℕ) (m : List (List ℕ)) → Roomy k m → x < 4 → (48 + x) * k + k ≤ length m
-  block-room x m room h = omega (arith, block-before x 4 h)
+  block-room x m roomy h = room k (48 + x) (omega arith) roomy
 
   pub block-low : (x : ℕ) → x < 4 → k ≤ 64 → (48 + x) * k + k ≤ 3328
-  block-low x h low = omega (arith, block-before x 4 h)
-
-  -- A row of one variable's block is outside each other's.
-  outside : (x y q : ℕ) → q < k → (x ≡ y → ⊥) → ((48 + x) * k + q < (48 + y) * k) ⊎ ((48 + y) * k + k ≤ (48 + x) * k + q)
-  outside x y q low other = elim (decLt x y) [
-    | yes h ↦ inl (omega (arith, block-before x y h))
-    | no nh ↦ inr (omega (arith, block-before y x (omega arith)))
-  ]
-
-  not-row : (a c i : ℕ) → c < k → (i < a) ⊎ (a + k ≤ i) → i ≡ a + c → ⊥
-  not-row a c i low (inl h) e = omega arith
-  not-row a c i low (inr h) e = omega arith
+  block-low x h low = omega (arith, room k (48 + x) {n = 52 * k} (omega arith) (omega arith))
 
   module _ (m after : List (List ℕ)) where
     pub touched : (x : ℕ) → Within k m ((48 + x) * k) after → Touched k x (x + 1) m after
-    touched x only = record { long = only .long; same = λ i out. only .same i (subst (λ n. (i < (48 + x) * k) ⊎ (n ≤ i)) (block-next x) out) }
-
-    pub other-rows : (x y : ℕ) → Within k m ((48 + y) * k) after → (x ≡ y → ⊥) → (q : ℕ) → q < k → getD after ((48 + x) * k + q) [] ≡ getD m ((48 + x) * k + q) []
-    other-rows x y only other q low = only .same ((48 + x) * k + q) (outside x y q low other)
-
-    pub light-within : (a c l : ℕ) → c < k → Lighted m (a + c) l after → Within k m a after
-    light-within a c l low done = record { long = done .long; same = λ i out. done .same i (not-row a c i low out) }
-
-    pub set-within : (a c : ℕ) (row : List ℕ) → c < k → Within k m a after → Within k m a (set after (a + c) row)
-    set-within a c row low only = record {
-      long = length-set after (a + c) row ∙ only .long;
-      same = λ i out. getD-set-other after (a + c) i row [] (not-row a c i low out) ∙ only .same i out;
+    touched x only = record {
+      long = only .long;
+      same = same-wider k (48 + x) (48 + x + 1) m after (same-within k (48 + x) m after only) (48 + x) (48 + (x + 1)) (omega arith) (omega arith);
     }
+
+    other-block : (x y : ℕ) → Within k m ((48 + y) * k) after → (x ≡ y → ⊥) → SameRows k m after x
+    other-block x y only = other-rows k m after y (touched y only) x
+
+    light-within : (a c l : ℕ) → c < k → Lighted m (a + c) l after → Within k m a after
+    light-within a c l low done = row-within k m a c m after low (done .long) (done .same) (record { long = refl; same = λ i out. refl })
 
   module _ (m : List (List ℕ)) (l x : ℕ) where
     -- The set that a variable has in a lane, from its rows.
-    pub given-is : (s : Set) → ((q : ℕ) → q < k → lit (getD m ((48 + x) * k + q) []) l ≡ s q) → ((q : ℕ) → k ≤ q → s q ≡ false) → given k m l x ≡ s
+    given-is : (s : Set) → ((q : ℕ) → q < k → lit (getD m ((48 + x) * k + q) []) l ≡ s q) → ((q : ℕ) → k ≤ q → s q ≡ false) → given k m l x ≡ s
     unfolding given
     given-is s inside past = fun-ext (λ q. elim (decLt q k) [
       | yes h ↦ and-on (ltb q k) _ (lt-ltb q k h) ∙ inside q h
       | no nh ↦ and-off (ltb q k) _ (le-ltb q k (omega arith)) ∙ sym (past q (omega arith))
     ])
 
-    pub given-one : (c : ℕ) → c < k → ((q : ℕ) → q < k → lit (getD m ((48 + x) * k + q) []) l ≡ eqb c q) → given k m l x ≡ plus none c
+    given-one : (c : ℕ) → c < k → ((q : ℕ) → q < k → lit (getD m ((48 + x) * k + q) []) l ≡ eqb c q) → given k m l x ≡ plus none c
     given-one c low each = given-is (plus none c) each (λ q h. ne-eqb c q (λ e. omega arith))
-
-    pub given-same : (after : List (List ℕ)) → ((q : ℕ) → q < k → getD after ((48 + x) * k + q) [] ≡ getD m ((48 + x) * k + q) []) → given k after l x ≡ given k m l x
-    unfolding given
-    given-same after same = fun-ext (λ q. elim (decLt q k) [
-      | yes h ↦ ap (λ r. ltb q k && lit r l) (same q h)
-      | no nh ↦ let off = le-ltb q k (omega arith) in and-off (ltb q k) _ off ∙ sym (and-off (ltb q k) _ off)
-    ])
 
   -- A block of empty rows, one of which is filled.
   pub fixed : (m : List (List ℕ)) (x c l : ℕ) → c < k → (48 + x) * k + k ≤ length m → Full k m ((48 + x) * k) 0 → l < 512
-      → given k (set m ((48 + x) * k + c) (replicate 8 ones)) l x ≡ plus none c
+      → given k (set m ((48 + x) * k + c) ones) l x ≡ plus none c
   fixed m x c l low room full h = given-one _ l x c low (λ q hq. elim (ℕ-discrete c q) [
     | yes e ↦
-        ap (λ i. lit (getD (set m ((48 + x) * k + c) (replicate 8 ones)) ((48 + x) * k + i) []) l) (sym e)
-        ∙ ap (λ r. lit r l) (getD-set-same m ((48 + x) * k + c) (replicate 8 ones) [] (omega arith)) ∙ every-lane l h ∙ sym (eq-eqb c q e)
+        ap (λ i. lit (getD (set m ((48 + x) * k + c) ones) ((48 + x) * k + i) []) l) (sym e)
+        ∙ ap (λ r. lit r l) (getD-set-same m ((48 + x) * k + c) ones [] (omega arith)) ∙ all-lit l h ∙ sym (eq-eqb c q e)
     | no other ↦
-        ap (λ r. lit r l) (getD-set-other m ((48 + x) * k + c) ((48 + x) * k + q) (replicate 8 ones) [] (λ e. other (omega arith)) ∙ full q hq)
-        ∙ no-lane l h ∙ sym (ne-eqb c q other)
+        ap (λ r. lit r l) (getD-set-other m ((48 + x) * k + c) ((48 + x) * k + q) ones [] (λ e. other (omega arith)) ∙ full q hq)
+        ∙ none-lit l ∙ sym (ne-eqb c q other)
   ])
 
-  pub freed : (m : List (List ℕ)) (x l : ℕ) → Full k m ((48 + x) * k) ones → l < 512 → given k m l x ≡ under k
-  freed m x l full h = given-is m l x (under k) (λ q hq. ap (λ r. lit r l) (full q hq) ∙ every-lane l h ∙ sym (lt-ltb q k hq)) (λ q hq. le-ltb q k hq)
+  pub freed : (m : List (List ℕ)) (x l : ℕ) → Full k m ((48 + x) * k) 18446744073709551615 → l < 512 → given k m l x ≡ under k
+  freed m x l full h = given-is m l x (under k) (λ q hq. ap (λ r. lit r l) (full q hq) ∙ all-lit l h ∙ sym (lt-ltb q k hq)) (λ q hq. le-ltb q k hq)
 
 -- The variables from `first` to before x have their sets in every lane, and only their blocks are changed.
 pub record Upto (k first : ℕ) (s : ℕ → Set) (m₀ m : List (List ℕ)) (x : ℕ) : Type 0 where
@@ -160,19 +118,15 @@ module _ (k first : ℕ) (s : ℕ → Set) where
       → Upto k first s m₀ after (x + 1)
   upto-more m₀ m after x from old new only = record {
     each = λ y l low high h. elim (decLt y x) [
-      | yes before ↦ given-same k m l y after (λ q hq. only .same ((48 + y) * k + q) (inl (omega (arith, block-before k y x before)))) ∙ old .each y l low before h
+      | yes before ↦ given-stays k m after y l (touched-rows k m after x (x + 1) only y (inl before)) ∙ old .each y l low before h
       | no nb ↦ let e : y ≡ x = omega arith in ap (given k after l) e ∙ new l h ∙ ap s (sym e)
     ];
-    only = record { long = only .long ∙ old .only .long; same = λ i out. only .same i (later i out) ∙ old .only .same i (earlier i out) };
+    only = record {
+      long = only .long ∙ old .only .long;
+      same = same-then k (48 + first) (48 + (x + 1)) m₀ m after (same-wider k (48 + first) (48 + x) m₀ m (old .only .same) (48 + first) (48 + (x + 1)) (omega arith) (omega arith))
+          (same-wider k (48 + x) (48 + (x + 1)) m after (only .same) (48 + first) (48 + (x + 1)) (omega arith) (omega arith));
+    };
   }
-    where
-      later : (i : ℕ) → (i < (48 + first) * k) ⊎ ((48 + (x + 1)) * k ≤ i) → (i < (48 + x) * k) ⊎ ((48 + (x + 1)) * k ≤ i)
-      later i (inl h) = inl (omega (arith, block-order k first x from))
-      later i (inr h) = inr h
-
-      earlier : (i : ℕ) → (i < (48 + first) * k) ⊎ ((48 + (x + 1)) * k ≤ i) → (i < (48 + first) * k) ⊎ ((48 + x) * k ≤ i)
-      earlier i (inl h) = inl h
-      earlier i (inr h) = inr (omega (arith, block-order k x (x + 1) (omega arith)))
 
 -- The variable x has in each lane j before l the class d j, if that is below k, and no class in the other lanes.
 pub record Laned (k x : ℕ) (d : ℕ → ℕ) (m : List (List ℕ)) (l : ℕ) : Type 0 where
@@ -202,19 +156,19 @@ module _ (d : ℕ → ℕ) (q l j : ℕ) where
   ]
 
 module _ (k x : ℕ) (d : ℕ → ℕ) where
-  pub laned-none : (m : List (List ℕ)) → Full k m ((48 + x) * k) 0 → Laned k x d m 0
+  laned-none : (m : List (List ℕ)) → Full k m ((48 + x) * k) 0 → Laned k x d m 0
   laned-none m full = record {
     wide = λ q hq. ap length (full q hq) ∙ length-replicate {A = ℕ} 8 0;
-    each = λ q j hq h. ap (λ r. lit r j) (full q hq) ∙ no-lane j h ∙ sym (and-off (ltb j 0) _ (le-ltb j 0 (omega arith)));
+    each = λ q j hq h. ap (λ r. lit r j) (full q hq) ∙ none-lit j ∙ sym (and-off (ltb j 0) _ (le-ltb j 0 (omega arith)));
   }
 
-  pub laned-past : (m : List (List ℕ)) (l : ℕ) → k ≤ d l → Laned k x d m l → Laned k x d m (l + 1)
+  laned-past : (m : List (List ℕ)) (l : ℕ) → k ≤ d l → Laned k x d m l → Laned k x d m (l + 1)
   laned-past m l past old = record { wide = old .wide; each = λ q j hq h. old .each q j hq h ∙ lane-past d q l j (λ e. omega arith) }
 
-  pub laned-kept : (m after : List (List ℕ)) (l : ℕ) → ((q : ℕ) → q < k → getD after ((48 + x) * k + q) [] ≡ getD m ((48 + x) * k + q) []) → Laned k x d m l → Laned k x d after l
+  laned-kept : (m after : List (List ℕ)) (l : ℕ) → ((q : ℕ) → q < k → getD after ((48 + x) * k + q) [] ≡ getD m ((48 + x) * k + q) []) → Laned k x d m l → Laned k x d after l
   laned-kept m after l same old = record { wide = λ q hq. ap length (same q hq) ∙ old .wide q hq; each = λ q j hq h. ap (λ r. lit r j) (same q hq) ∙ old .each q j hq h }
 
-  pub laned-more : (m after : List (List ℕ)) (l c : ℕ) → d l ≡ c → c < k → Lighted m ((48 + x) * k + c) l after → Laned k x d m l → Laned k x d after (l + 1)
+  laned-more : (m after : List (List ℕ)) (l c : ℕ) → d l ≡ c → c < k → Lighted m ((48 + x) * k + c) l after → Laned k x d m l → Laned k x d after (l + 1)
   laned-more m after l c is low done old = record {
     wide = λ q hq. elim (ℕ-discrete q c) [
       | yes e ↦ ap (λ q. length (getD after ((48 + x) * k + q) [])) e ∙ done .wide ∙ old .wide c low
@@ -228,7 +182,7 @@ module _ (k x : ℕ) (d : ℕ → ℕ) where
     ];
   }
 
-  pub laned-given : (m : List (List ℕ)) (n l c : ℕ) → Laned k x d m n → n ≤ 512 → l < n → d l ≡ c → c < k → given k m l x ≡ plus none c
+  laned-given : (m : List (List ℕ)) (n l c : ℕ) → Laned k x d m n → n ≤ 512 → l < n → d l ≡ c → c < k → given k m l x ≡ plus none c
   laned-given m n l c all few h is low =
       given-one k m l x c low (λ q hq. all .each q l hq (omega arith) ∙ and-on (ltb l n) _ (lt-ltb l n h) ∙ ap (λ c. eqb c q) is)
 
@@ -265,8 +219,8 @@ module _ (k hi lo : ℕ) where
   pub both-one : (m after : List (List ℕ)) (x : ℕ) → (x ≡ hi) ⊎ (x ≡ lo) → Within k m ((48 + x) * k) after → BothTouched k hi lo m after
   both-one m after x which only = record {
     long = only .long;
-    tokens = λ i h. only .same i (inl (omega (arith, block-order k 0 x (omega arith))));
-    others = λ y q h low one two. other-rows k m after y x only (not-own y one two which) q low;
+    tokens = λ i h. only .same i (inl (omega (arith, mul-le-mul-right {m = 48} {n = 48 + x} k (omega arith))));
+    others = λ y q h low one two. other-block k m after y x only (not-own y one two which) q low;
   }
     where
       not-own : (y : ℕ) → (y ≡ hi → ⊥) → (y ≡ lo → ⊥) → (x ≡ hi) ⊎ (x ≡ lo) → y ≡ x → ⊥
@@ -297,7 +251,7 @@ module _ (k hi lo start : ℕ) where
   module _ (two : hi ≡ lo → ⊥) where
     pub written-none : (m after : List (List ℕ)) → Full k m ((48 + hi) * k) 0 → Full k after ((48 + lo) * k) 0 → Within k m ((48 + lo) * k) after → Written after after 0 0
     written-none m after one other only = record {
-      high = laned-kept k hi (high-digit k start) m after 0 (other-rows k m after hi lo only two) (laned-none k hi (high-digit k start) m one);
+      high = laned-kept k hi (high-digit k start) m after 0 (other-block k m after hi lo only two) (laned-none k hi (high-digit k start) m one);
       low = laned-none k lo (low-digit k start) after other;
       both = record { long = refl; tokens = λ i h. refl; others = λ x q h low one two. refl };
     }
@@ -314,13 +268,13 @@ module _ (k hi lo start : ℕ) where
       pub high-lit : (after : List (List ℕ)) → y < k → Lighted m ((48 + hi) * k + y) l after → Written m₀ m l l → Written m₀ after (l + 1) l
       high-lit after inside done old = let only = light-within k m after ((48 + hi) * k) y l inside done in record {
         high = laned-more k hi (high-digit k start) m after l y (high-is k start y z l (next .low) (next .sum)) inside done (old .high);
-        low = laned-kept k lo (low-digit k start) m after l (other-rows k m after lo hi only (λ e. two (sym e))) (old .low);
+        low = laned-kept k lo (low-digit k start) m after l (other-block k m after lo hi only (λ e. two (sym e))) (old .low);
         both = both-then k hi lo m₀ m after (old .both) (both-one k hi lo m after hi (inl refl) only);
       }
 
       pub low-lit : (after : List (List ℕ)) → Lighted m ((48 + lo) * k + z) l after → Written m₀ m (l + 1) l → Written m₀ after (l + 1) (l + 1)
       low-lit after done old = let only = light-within k m after ((48 + lo) * k) z l (next .low) done in record {
-        high = laned-kept k hi (high-digit k start) m after (l + 1) (other-rows k m after hi lo only two) (old .high);
+        high = laned-kept k hi (high-digit k start) m after (l + 1) (other-block k m after hi lo only two) (old .high);
         low = laned-more k lo (low-digit k start) m after l z (low-is k start y z l (next .low) (next .sum)) (next .low) done (old .low);
         both = both-then k hi lo m₀ m after (old .both) (both-one k hi lo m after lo (inr refl) only);
       }

@@ -9,11 +9,11 @@ use lib.ListN.{length, getD, replicate}
 use Rattle.theory.specs.Rewriting.{Rule}
 use Rattle.theory.specs.Automaton.{Automaton, Transition}
 use Rattle.theory.specs.Value.{isCritical}
-use Rattle.sets.specs.Sets.{Set, mem, none, plus, less, under}
+use Rattle.sets.specs.Sets.{Set, mem, none, plus, less}
 use Rattle.woven.specs.Woven.{wovenMoves}
 use Rattle.values.specs.Sets.{spanned}
 use Rattle.values.specs.Lanes.{lit, lane, blockOf, given}
-use Rattle.values.specs.Standing.{Stands, Ready, Kept}
+use Rattle.values.specs.Standing.{Stands, Ready}
 use Rattle.lanes.specs.Prefixes.{rest, chosen}
 
 -- There is room for the 52 blocks.
@@ -24,6 +24,13 @@ Roomy k m = 52 * k ≤ length m
 pub record Touched (k first last : ℕ) (m after : List (List ℕ)) : Type 0 where
   pub long : length after ≡ length m
   pub same : (i : ℕ) → (i < (48 + first) * k) ⊎ ((48 + last) * k ≤ i) → getD after i [] ≡ getD m i []
+
+-- What giving a variable a class relies on.
+pub record Fixable (k : ℕ) (m : List (List ℕ)) (x class : ℕ) : Type 0 where
+  pub room : Roomy k m
+  pub variable : x < 4
+  pub low : class < k
+  pub most : k ≤ 64
 
 -- The first variables have these classes in every lane.
 pub record Fixed (k : ℕ) (m : List (List ℕ)) (xs : List ℕ) : Type 0 where
@@ -81,6 +88,13 @@ pub record Compared (Δ : List Transition) (tokens : List ℕ) (k : ℕ) (m afte
   pub left : some ≡ true → (l : ℕ) → l < 512 → lane k after 0 l ≡ spanned Δ (given k m l) (rule .left)
   pub right : some ≡ true → (l : ℕ) → l < 512 → lane k after (blockOf tokens 24 * k) l ≡ spanned Δ (given k m l) (rule .right)
 
+-- What looking for a class in one lane relies on: the left side's block and the one at row b are within the list, and the lane is of the first 64.
+pub record Inspectable (k : ℕ) (m : List (List ℕ)) (b q j : ℕ) : Type 0 where
+  pub left : k ≤ length m
+  pub right : b + k ≤ length m
+  pub class : q < k
+  pub lane : j < 64
+
 -- The variables' blocks are as they were.
 pub record Untouched (k : ℕ) (m after : List (List ℕ)) : Type 0 where
   pub long : length after ≡ length m
@@ -131,6 +145,12 @@ Swept M rule xs live found = (y : ℕ) → y < M .states → mem live y ≡ true
 pub record Open (M : Automaton) (rule : Rule) (v : ℕ) (xs : List ℕ) (needed mask : ℕ) : Type 0 where
   pub early : (y : ℕ) → y < M .states → mem mask y ≡ false → length xs + 1 < v
   pub passed : (y : ℕ) → y < M .states → mem mask y ≡ false → Calm M rule v (xs ++ (y ∷ [])) ⊎ (mem needed y ≡ false)
+
+-- The classes of the variables before the last: as many of these three as a rule of v variables has.
+pub record BeforeLast (k v : ℕ) (xs : List ℕ) : Type 0 where
+  pub few : v ≤ 4
+  pub long : length xs ≡ 3
+  pub low : (i : ℕ) → getD xs i 0 < k
 
 -- The substitutions that differ in the last variable alone, one to a lane: whether one may have a critical pair, and if so both sides' values in the lanes.
 pub record Block (M : Automaton) (rule : Rule) (v x0 x1 x2 : ℕ) (tokens : List ℕ) (m : List (List ℕ)) (some : Bool) : Type 0 where

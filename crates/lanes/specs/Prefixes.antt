@@ -1,8 +1,8 @@
 -- The classes that a prefix of a rule's variables has, and what is left to choose.
 use mathlib.Core.Bool.{cond}
 use mathlib.Core.List.{List, [], _∷_}
-use Prim.Native.Nat.{ℕ, zero, suc, _+_, _-_, max, min}
-use lib.Dec.{eqb, ltb}
+use Prim.Native.Nat.{ℕ, zero, suc, _+_, _-_, _≤_, _<_, max, min}
+use lib.Dec.{ltb}
 use lib.ListN.{getD}
 use Rattle.verdicts.specs.declared.CriticalPair.{CriticalPair}
 
@@ -21,6 +21,16 @@ chosen (suc zero) x0 x1 x2 j = j ∷ []
 chosen (suc (suc zero)) x0 x1 x2 j = x0 ∷ j ∷ []
 chosen (suc (suc (suc zero))) x0 x1 x2 j = x0 ∷ x1 ∷ j ∷ []
 chosen (suc (suc (suc (suc v)))) x0 x1 x2 j = x0 ∷ x1 ∷ x2 ∷ j ∷ []
+
+-- What writing a critical pair relies on: its rule, its variables' classes and its own are small numbers.
+pub record Writable (rule v x0 x1 x2 j q : ℕ) : Type 0 where
+  pub low-rule : rule < 64
+  pub few : v ≤ 4
+  pub low0 : x0 < 64
+  pub low1 : x1 < 64
+  pub low2 : x2 < 64
+  pub low-last : j < 64
+  pub low-class : q < 64
 
 -- The critical pair of that substitution: 255 stands for each variable that the rule does not have.
 unfoldable pub pairOf : (rule v x0 x1 x2 j q : ℕ) → CriticalPair

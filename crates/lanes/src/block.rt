@@ -2,13 +2,12 @@
 use super::sides::compare;
 use super::variables::fix_all;
 use super::variables::pair_up;
-ghost use mathlib.Core.Path.{_≡_};
-ghost use Prim.Native.Nat.{ℕ, _≤_, _<_};
-ghost use lib.ListN.{length, getD};
+ghost use Prim.Native.Nat.{_<_};
+ghost use lib.ListN.{getD};
 ghost use Rattle.theory.specs.Rewriting.{Rule};
 ghost use Rattle.values.specs.Standing.{Spelled, Each};
 ghost use Rattle.lanes.specs.Automaton.{automatonOf};
-ghost use Rattle.lanes.specs.Blocks.{Judgeable, Block, Long};
+ghost use Rattle.lanes.specs.Blocks.{Judgeable, BeforeLast, Block, Long};
 
 // Nothing is kept past the block, so no variable is told apart.
 const NONE: u8 = 255;
@@ -25,8 +24,7 @@ pub fn block<'a>(
     xs: &'a [u8],
     m: &mut [[u64; 8]],
 ) -> bool
-    requires { ⌜ Judgeable (now arities) (now words) (now heads) (now tokens) k (now m) × (v ≤ 4) × (length (now xs) ≡ 3)
-        × ((i : ℕ) → getD (now xs) i 0 < k) ⌝ }
+    requires { ⌜ Judgeable (now arities) (now words) (now heads) (now tokens) k (now m) × BeforeLast k v (now xs) ⌝ }
     ensures { λ r. ⌜ ((rule : Rule) → Spelled (now (arities .entry)) (now (tokens .entry)) rule → Each (λ x. x < v) (rule .left)
         → Each (λ x. x < v) (rule .right)
         → Block (automatonOf (now (arities .entry)) (now (words .entry)) (now (heads .entry)) k) rule v

@@ -3,7 +3,7 @@ use verdicts::CriticalPair;
 use verdicts::NO_CLASS;
 ghost use mathlib.Core.Path.{_≡_};
 ghost use Prim.Native.Nat.{_^_, _≤_, _<_};
-ghost use Rattle.lanes.specs.Prefixes.{rest, choices, pairOf};
+ghost use Rattle.lanes.specs.Prefixes.{rest, choices, Writable, pairOf};
 
 // How many of v variables are left where the first i have their classes.
 fn left(v: u8, i: u8) -> u8
@@ -50,7 +50,7 @@ pub fn tries(k: u64, v: u8, i: u8) -> u64
 
 // The critical pair of a rule, with the classes of its v variables.
 pub fn pair(rule: usize, v: u8, x0: u64, x1: u64, x2: u64, j: u64, q: u64) -> CriticalPair
-    requires { ⌜ (rule < 64) × (v ≤ 4) × (x0 < 64) × (x1 < 64) × (x2 < 64) × (j < 64) × (q < 64) ⌝ }
+    requires { ⌜ Writable rule v x0 x1 x2 j q ⌝ }
     ensures { λ r. ⌜ r ≡ pairOf rule v x0 x1 x2 j q ⌝ }
 {
     let number = rule as u8;

@@ -12,7 +12,7 @@ ghost use Rattle.sets.specs.Sets.{mem, less};
 ghost use Rattle.woven.specs.Woven.{wovenMoves};
 ghost use Rattle.values.specs.Lanes.{lit, lane};
 ghost use Rattle.values.specs.Standing.{Spelled, Kept};
-ghost use Rattle.lanes.specs.Blocks.{Judgeable, Compared, Untouched};
+ghost use Rattle.lanes.specs.Blocks.{Judgeable, Compared, Inspectable, Untouched};
 
 const LEFT: usize = 0;
 
@@ -125,7 +125,7 @@ pub fn left_lanes(m: &[[u64; 8]], k: usize) -> u64
 
 // Whether the class q is in the left side's block and not in the block at row b, in lane j of the first 64.
 pub fn critical(m: &[[u64; 8]], k: usize, b: usize, q: usize, j: u64) -> bool
-    requires { ⌜ (k ≤ length (now m)) × (b + k ≤ length (now m)) × (q < k) × (j < 64) ⌝ }
+    requires { ⌜ Inspectable k (now m) b q j ⌝ }
     ensures { λ r. ⌜ r ≡ less (lane k (now (m .entry)) 0 j) (lane k (now (m .entry)) b j) q ⌝ }
 {
     has(minus(m[q][0], m[b + q][0]), j)

@@ -7,7 +7,7 @@ ghost use lib.ListN.{length, getD};
 ghost use Rattle.sets.specs.Sets.{none, plus, under};
 ghost use Rattle.values.specs.Lanes.{given};
 ghost use Rattle.values.specs.Rows.{Room, Within};
-ghost use Rattle.lanes.specs.Blocks.{Roomy, Touched, Fixed, Full, Lighted, PairedRoom, Paired, BothTouched};
+ghost use Rattle.lanes.specs.Blocks.{Roomy, Touched, Fixable, Prefix, Fixed, Full, Lighted, PairedRoom, Paired, BothTouched};
 
 const ALL: u64 = 18446744073709551615;
 
@@ -25,7 +25,7 @@ fn fill(m: &mut [[u64; 8]], k: usize, a: usize, w: u64)
 
 // The variable x has this class in every lane.
 pub fn fix(m: &mut [[u64; 8]], k: usize, x: usize, class: usize)
-    requires { ⌜ Roomy k (now m) × (x < 4) × (class < k) × (k ≤ 64) ⌝ }
+    requires { ⌜ Fixable k (now m) x class ⌝ }
     ensures { λ r. ⌜ ((l : ℕ) → l < 512 → given k (now (m .exit)) l x ≡ plus none class) × Touched k x (x + 1) (now (m .entry)) (now (m .exit)) ⌝ }
 {
     let a = (VARIABLES + x) * k;
@@ -35,7 +35,7 @@ pub fn fix(m: &mut [[u64; 8]], k: usize, x: usize, class: usize)
 
 // The first variables have these classes in every lane.
 pub fn fix_all(m: &mut [[u64; 8]], k: usize, xs: &[u8])
-    requires { ⌜ Roomy k (now m) × (length (now xs) ≤ 4) × ((x : ℕ) → x < length (now xs) → getD (now xs) x 0 < k) × (k ≤ 64) ⌝ }
+    requires { ⌜ Roomy k (now m) × Prefix k 4 (now xs) × (k ≤ 64) ⌝ }
     ensures { λ r. ⌜ Fixed k (now (m .exit)) (now (xs .entry)) × Touched k 0 (length (now (xs .entry))) (now (m .entry)) (now (m .exit)) ⌝ }
 {
     let mut x = 0;

@@ -68,18 +68,22 @@ noCase = case 0 noRule []
 abbrev pub ruleIn : List Rule → ℕ → Rule
 ruleIn R r = getD R r noRule
 
+length-of-cases : (k n : ℕ) (rule : Rule) → length (map (case n rule) (substitutions k (variableCount rule))) ≡ k ^ variableCount rule
+length-of-cases k n rule = length-map (substitutions k (variableCount rule)) (case n rule) ∙ length-substitutions k (variableCount rule)
+
 -- The substitutions of rule r stand behind those of the earlier rules.
-pub case-at : (k n : ℕ) (R : List Rule) (r d : ℕ) → r < length R → d < k ^ variableCount (ruleIn R r) → getD (cases k n R) (total k (take r R) + d) noCase ≡ case (n + r) (ruleIn R r) (getD (substitutions k (variableCount (ruleIn R r))) d [])
+pub case-at : (k n : ℕ) (R : List Rule) (r d : ℕ) → r < length R → d < k ^ variableCount (ruleIn R r)
+    → getD (cases k n R) (total k (take r R) + d) noCase ≡ case (n + r) (ruleIn R r) (getD (substitutions k (variableCount (ruleIn R r))) d [])
 unfolding cases total
 case-at k n [] r d hr hd = absurd (omega arith)
 case-at k n (rule ∷ R) zero d hr hd =
-    let long : length (map (case n rule) (substitutions k (variableCount rule))) ≡ k ^ variableCount rule = length-map (substitutions k (variableCount rule)) (case n rule) ∙ length-substitutions k (variableCount rule) in
+    let long = length-of-cases k n rule in
     ap (λ i. getD (map (case n rule) (substitutions k (variableCount rule)) ++ cases k (suc n) R) i noCase) (zero-add d)
     ∙ List·getD-append (map (case n rule) (substitutions k (variableCount rule))) (cases k (suc n) R) noCase d (omega (arith, long))
     ∙ mapped (case n rule) (substitutions k (variableCount rule)) [] noCase d (omega (arith, length-substitutions k (variableCount rule)))
     ∙ ap (λ m. case m rule (getD (substitutions k (variableCount rule)) d [])) (sym (add-zero n))
 case-at k n (rule ∷ R) (suc r) d hr hd =
-    let long : length (map (case n rule) (substitutions k (variableCount rule))) ≡ k ^ variableCount rule = length-map (substitutions k (variableCount rule)) (case n rule) ∙ length-substitutions k (variableCount rule) in
+    let long = length-of-cases k n rule in
     let e : k ^ variableCount rule + total k (take r R) + d ≡ length (map (case n rule) (substitutions k (variableCount rule))) + (total k (take r R) + d) = omega (arith, long) in
     let shift : suc n + r ≡ n + suc r = omega arith in
     ap (λ i. getD (map (case n rule) (substitutions k (variableCount rule)) ++ cases k (suc n) R) i noCase) e

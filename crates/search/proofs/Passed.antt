@@ -20,7 +20,6 @@ use Rattle.alike.specs.Alike.{SameSides}
 use Rattle.alike.proofs.First.{still-critical}
 use Rattle.lanes.specs.Prefixes.{rest, choices}
 use Rattle.lanes.specs.Blocks.{Calm as CalmFrom}
-use Rattle.lanes.proofs.Numbers.{choices-in}
 use Rattle.search.specs.Searched.{Opened}
 use Rattle.search.proofs.Order.{place-listed}
 use Rattle.search.proofs.Walk.{caseAt, Calm, Level, level-prefix, level-run, calm-from}
@@ -40,15 +39,18 @@ rest-early v i h = omega arith
 
 module _ (M : Automaton) (R : List Rule) where
   -- With c at the variable i as calm as with y.
-  calm-beside : (r : ℕ) (rule : Rule) (xs : List ℕ) (c y : ℕ) (τ : List ℕ) → SameSides M rule (length xs) c y → Calm M R (case r rule ((xs ++ (c ∷ [])) ++ τ)) → Calm M R (case r rule ((xs ++ (y ∷ [])) ++ τ))
+  calm-beside : (r : ℕ) (rule : Rule) (xs : List ℕ) (c y : ℕ) (τ : List ℕ) → SameSides M rule (length xs) c y → Calm M R (case r rule ((xs ++ (c ∷ [])) ++ τ))
+      → Calm M R (case r rule ((xs ++ (y ∷ [])) ++ τ))
   calm-beside r rule xs c y τ same calm q k =
       let here : SameSides M rule (length xs) c (entry ((xs ++ (y ∷ [])) ++ τ) (length xs)) = rw (entry-seam xs y τ) same in
       calm q (rw (set-seam xs y c τ) at (still-critical r ((xs ++ (y ∷ [])) ++ τ) here k))
 
-  module _ (range : InRange M) (shaped : WellShapedRules R) (v i r : ℕ) (rule : Rule) (xs : List ℕ) (budget start y n : ℕ) (t : Level M R v i r rule xs budget start y n) (going : y < choices (M .states) v i) (early : i + 1 < v) where
+  module _ (range : InRange M) (shaped : WellShapedRules R) (v i r : ℕ) (rule : Rule) (xs : List ℕ) (budget start y n : ℕ) (t : Level M R v i r rule xs budget start y n)
+      (going : y < choices (M .states) v i) (early : i + 1 < v) where
     -- The substitution with the choice y whose later classes are τ.
-    at-place : (x m : ℕ) → Level M R v i r rule xs budget start x m → x < choices (M .states) v i → (d : ℕ) → d < M .states ^ rest v (i + 1) → caseAt M R (m + d) ≡ case r rule ((xs ++ (x ∷ [])) ++ getD (substitutions (M .states) (rest v (i + 1))) d [])
-    at-place x m l h d hd = level-run M R v i r rule xs budget start x m l h .each d hd ∙ ap (λ π. case r rule (π ++ getD (substitutions (M .states) (rest v (i + 1))) d [])) (level-prefix M R v i r rule xs budget start x m l h early)
+    at-place : (x m : ℕ) → Level M R v i r rule xs budget start x m → x < choices (M .states) v i → (d : ℕ) → d < M .states ^ rest v (i + 1)
+        → caseAt M R (m + d) ≡ case r rule ((xs ++ (x ∷ [])) ++ getD (substitutions (M .states) (rest v (i + 1))) d [])
+    at-place x m l h d hd = level-run M R l h .each d hd ∙ ap (λ π. case r rule (π ++ getD (substitutions (M .states) (rest v (i + 1))) d [])) (level-prefix M R l h early)
 
     -- Where a smaller class c gives both sides the same value, none of them has a critical class.
     alike-calm : (c : ℕ) → c < y → SameSides M rule (length xs) c y → (d : ℕ) → d < M .states ^ rest v (i + 1) → Calm M R (caseAt M R (n + d))
@@ -56,7 +58,14 @@ module _ (M : Automaton) (R : List Rule) where
         let w = rest v (i + 1) in
         let m = start + c * M .states ^ w in
         let earlier : m + M .states ^ w ≤ n = omega (arith, t .place, suc-mul c (M .states ^ w), mul-le-mul-right (M .states ^ w) (below c y less)) in
-        let before : Level M R v i r rule xs budget start c m = record { run = t .run; long = t .long; upto = omega (arith, t .upto); place = refl; within = omega (arith, t .within); clear = λ j h. t .clear j (omega arith) } in
+        let before : Level M R v i r rule xs budget start c m = record {
+          run = t .run;
+          long = t .long;
+          upto = omega (arith, t .upto);
+          place = refl;
+          within = omega (arith, t .within);
+          clear = λ j h. t .clear j (omega arith);
+        } in
         subst (Calm M R) (sym (at-place y n t going d hd)) (calm-beside r rule xs c y _ same (subst (Calm M R) (at-place c m before (omega arith) d hd) (t .clear (m + d) (omega arith))))
       where
         below : (c y : ℕ) → c < y → suc c ≤ y
@@ -73,7 +82,8 @@ module _ (M : Automaton) (R : List Rule) where
         subst (Calm M R) (sym (at-place y n t going d hd)) (calm-from M R range shaped r rule ((xs ++ (y ∷ [])) ++ τ) listed (λ q hq. calm τ long (sound .1) q hq))
 
   -- A choice that is not gone into.
-  pub passed-calm : (range : InRange M) (shaped : WellShapedRules R) (v i r : ℕ) (rule : Rule) (xs : List ℕ) (budget start y n : ℕ) → Level M R v i r rule xs budget start y n → y < choices (M .states) v i
+  pub passed-calm : (range : InRange M) (shaped : WellShapedRules R) (v i r : ℕ) (rule : Rule) (xs : List ℕ) (budget start y n : ℕ) → Level M R v i r rule xs budget start y n
+      → y < choices (M .states) v i
       → List·Memᴰ rule R → (mask : ℕ) → Opened M rule v xs mask → mem mask y ≡ false → y < M .states → (d : ℕ) → d < M .states ^ rest v (i + 1) → Calm M R (caseAt M R (n + d))
   passed-calm range shaped v i r rule xs budget start y n t going listed mask opened gone low d hd =
       let early : i + 1 < v = omega (arith, opened .early y low gone, t .long) in

@@ -11,7 +11,6 @@ use Rattle.theory.specs.Lists.{countFrom}
 use Rattle.theory.specs.Term.{Term, Terms, var, node, none, _then_, variables, variablesAll}
 use Rattle.theory.specs.Preorder.{preorder}
 use Rattle.theory.specs.Rewriting.{Rule, variableCount, WellShaped}
-use Rattle.theory.specs.Automaton.{Automaton}
 use Rattle.theory.specs.Value.{isCritical}
 use Rattle.theory.proofs.Count.{getD-values, length-count, mem-order, order-mem}
 use Rattle.paper.specs.Checked.{says}
@@ -22,9 +21,10 @@ use Rattle.tables.specs.Held.{tokenOf, sideAt, ruleAt, rulesOf}
 use Rattle.tables.specs.declared.Rules.{Rules}
 use Rattle.woven.specs.Woven.{part, moveOf, wovenMoves}
 use Rattle.values.specs.Lanes.{lane, blockOf}
-use Rattle.values.specs.Standing.{Each, EachRow, one, over, empty, _beside_, Spells, Stands, Spelled, Ready}
+use Rattle.values.specs.Standing.{Each, EachRow, one, over, empty, _beside_, Spells, Stands, Ready}
 use Rattle.values.proofs.Spanned.{each-then}
 use Rattle.values.proofs.Standing.{variable-here, block-room}
+use Rattle.alike.specs.Needed.{RuleGiven, Led}
 use Rattle.lanes.specs.Prefixes.{rest, choices, chosen}
 use Rattle.lanes.specs.Blocks.{Judgeable}
 use Rattle.lanes.specs.Automaton.{automatonOf}
@@ -59,7 +59,12 @@ side-spells : (arities tokens : List ℕ) (at n : ℕ) (t : Term ℕ) → sideAt
 unfolding sideAt
 side-spells arities tokens at n t e =
     let (p, r) = preorder-exact arities (map tokenOf (take n (drop at tokens))) t .0 e in
-    record { ranked = r; reads = ap (map tokenOf) (sym (take-append-drop n (drop at tokens))) ∙ map-append tokenOf (take n (drop at tokens)) (drop n (drop at tokens)) ∙ ap (λ l. l ++ map tokenOf (drop n (drop at tokens))) (sym p) }
+    record {
+      ranked = r;
+      reads = ap (map tokenOf) (sym (take-append-drop n (drop at tokens)))
+          ∙ map-append tokenOf (take n (drop at tokens)) (drop n (drop at tokens))
+          ∙ ap (λ l. l ++ map tokenOf (drop n (drop at tokens))) (sym p);
+    }
 
 -- It has no more tokens than were read.
 side-short : (arities tokens : List ℕ) (at n : ℕ) (t : Term ℕ) → sideAt arities tokens at n ≡ says t → length (preorder t) ≤ n
@@ -85,133 +90,157 @@ mutual
   each-listed-all P none all = empty
   each-listed-all P (t then ts) all = each-listed P t (λ x m. all x (Memᴰ·append-left (variablesAll ts) m)) beside each-listed-all P ts (λ x m. all x (Memᴰ·append-right (variables t) m))
 
-module _ (arities words heads : List ℕ) (rules : Rules) (k : ℕ) where
-  abbrev pub M : Automaton
-  M = automatonOf arities words heads k
+pub rule-count : (arities : List ℕ) (rules : Rules) → length (rulesOf arities rules) ≡ rules .count
+unfolding rulesOf
+rule-count arities rules = length-map (countFrom 0 (rules .count)) (ruleAt arities rules) ∙ length-count 0 (rules .count)
 
-  abbrev pub R : List Rule
+module _ {arities words heads : List ℕ} {rules : Rules} {k : ℕ} (ok : Searchable arities words heads rules k) where
+  abbrev R : List Rule
   R = rulesOf arities rules
 
-  pub rule-count : length R ≡ rules .count
-  unfolding rulesOf
-  rule-count = length-map (countFrom 0 (rules .count)) (ruleAt arities rules) ∙ length-count 0 (rules .count)
+  -- The tables are ready for valuing.
+  pub tables-ready : Ready arities words heads k
+  unfolding automatonOf wovenMoves moveOf
+  tables-ready = record {
+    indexed = ok .indexed;
+    target = λ i h. ok .in-range .targets (moveOf arities (getD words i 0)) (word-listed i h);
+    argument = λ i j h hj. ok .arguments (moveOf arities (getD words i 0)) (word-listed i h) (part (getD words i 0) j)
+        (argument-listed (getD words i 0) (getD arities (part (getD words i 0) 4) 0) j (ok .ranks (part (getD words i 0) 4)) hj);
+    ranks = ok .ranks;
+    some = ok .some-class;
+    most = ok .most-classes;
+  }
+    where
+      word-listed : (i : ℕ) → i < getD heads 64 0 → List·Memᴰ (moveOf arities (getD words i 0)) (wovenMoves arities words (getD heads 64 0))
+      word-listed i h = Memᴰ·map (λ i. moveOf arities (getD words i 0)) (order-mem 0 (getD heads 64 0) i (omega arith) (omega arith))
 
-  module _ (groups : List ℕ) (ok : Searchable arities words heads rules k groups) where
-    -- The tables are ready for valuing.
-    pub tables-ready : Ready arities words heads k
-    unfolding automatonOf wovenMoves moveOf
-    tables-ready = record {
-      indexed = ok .indexed;
-      target = λ i h. ok .in-range .targets (moveOf arities (getD words i 0)) (word-listed i h);
-      argument = λ i j h hj. ok .arguments (moveOf arities (getD words i 0)) (word-listed i h) (part (getD words i 0) j) (argument-listed (getD words i 0) (getD arities (part (getD words i 0) 4) 0) j (ok .ranks (part (getD words i 0) 4)) hj);
-      ranks = ok .ranks;
-      some = ok .some-class;
-      most = ok .most-classes;
-    }
-      where
-        word-listed : (i : ℕ) → i < getD heads 64 0 → List·Memᴰ (moveOf arities (getD words i 0)) (wovenMoves arities words (getD heads 64 0))
-        word-listed i h = Memᴰ·map (λ i. moveOf arities (getD words i 0)) (order-mem 0 (getD heads 64 0) i (omega arith) (omega arith))
+      argument-listed : (w n j : ℕ) → n ≤ 3 → j < n → List·Memᴰ (part w j) (take n (part w 0 ∷ (part w 1 ∷ (part w 2 ∷ []))))
+      argument-listed w zero j most h = absurd (omega arith)
+      argument-listed w (suc n) zero most h = List·Memᴰ·head refl
+      argument-listed w (suc zero) (suc j) most h = absurd (omega arith)
+      argument-listed w (suc (suc n)) (suc zero) most h = List·Memᴰ·tail (List·Memᴰ·head refl)
+      argument-listed w (suc (suc zero)) (suc (suc j)) most h = absurd (omega arith)
+      argument-listed w (suc (suc (suc n))) (suc (suc zero)) most h = List·Memᴰ·tail (List·Memᴰ·tail (List·Memᴰ·head refl))
+      argument-listed w (suc (suc (suc n))) (suc (suc (suc j))) most h = absurd (omega arith)
 
-        argument-listed : (w n j : ℕ) → n ≤ 3 → j < n → List·Memᴰ (part w j) (take n (part w 0 ∷ (part w 1 ∷ (part w 2 ∷ []))))
-        argument-listed w zero j most h = absurd (omega arith)
-        argument-listed w (suc n) zero most h = List·Memᴰ·head refl
-        argument-listed w (suc zero) (suc j) most h = absurd (omega arith)
-        argument-listed w (suc (suc n)) (suc zero) most h = List·Memᴰ·tail (List·Memᴰ·head refl)
-        argument-listed w (suc (suc zero)) (suc (suc j)) most h = absurd (omega arith)
-        argument-listed w (suc (suc (suc n))) (suc (suc zero)) most h = List·Memᴰ·tail (List·Memᴰ·tail (List·Memᴰ·head refl))
-        argument-listed w (suc (suc (suc n))) (suc (suc (suc j))) most h = absurd (omega arith)
+  module _ (r : ℕ) (h : r < rules .count) where
+    rule-is : ruleIn R r ≡ ruleAt arities rules r
+    unfolding rulesOf
+    rule-is = getD-values (ruleAt arities rules) noRule (rules .count) r h
 
-    module _ (r : ℕ) (h : r < rules .count) where
-      rule-is : ruleIn R r ≡ ruleAt arities rules r
-      unfolding rulesOf
-      rule-is = getD-values (ruleAt arities rules) noRule (rules .count) r h
+    pub rule-listed : List·Memᴰ (ruleIn R r) R
+    rule-listed = place-listed R noRule r (omega (arith, rule-count arities rules))
 
-      pub rule-listed : List·Memᴰ (ruleIn R r) R
-      rule-listed = place-listed R noRule r (omega (arith, rule-count))
+    pub rule-variables : getD (rules .variables) r 0 ≡ variableCount (ruleIn R r)
+    rule-variables = ok .sound r h .variables ∙ ap variableCount (sym rule-is)
 
-      pub rule-variables : getD (rules .variables) r 0 ≡ variableCount (ruleIn R r)
-      rule-variables = ok .sound r h .variables ∙ ap variableCount (sym rule-is)
+    shape : WellShaped (ruleIn R r)
+    shape = ok .shaped (ruleIn R r) rule-listed
 
-      shape : WellShaped (ruleIn R r)
-      shape = ok .shaped (ruleIn R r) rule-listed
+    -- Both sides are over the rule's variables.
+    left-over : (v : ℕ) → v ≡ variableCount (ruleIn R r) → Each (λ x. x < v) (ruleIn R r .left)
+    left-over v e = each-listed _ (ruleIn R r .left) (λ x m. omega (arith, mem-order 0 (variableCount (ruleIn R r)) (subst (List·Memᴰ x) (shape .inOrder) m) .1))
 
-      -- Both sides are over the rule's variables.
-      left-over : (v : ℕ) → v ≡ variableCount (ruleIn R r) → Each (λ x. x < v) (ruleIn R r .left)
-      left-over v e = each-listed _ (ruleIn R r .left) (λ x m. omega (arith, mem-order 0 (variableCount (ruleIn R r)) (subst (List·Memᴰ x) (shape .inOrder) m) .1))
+    right-over : (v : ℕ) → v ≡ variableCount (ruleIn R r) → Each (λ x. x < v) (ruleIn R r .right)
+    right-over v e = each-listed _ (ruleIn R r .right) (λ x m. omega (arith, mem-order 0 (variableCount (ruleIn R r)) (subst (List·Memᴰ x) (shape .inOrder) (shape .fromLeft x m)) .1))
 
-      right-over : (v : ℕ) → v ≡ variableCount (ruleIn R r) → Each (λ x. x < v) (ruleIn R r .right)
-      right-over v e = each-listed _ (ruleIn R r .right) (λ x m. omega (arith, mem-order 0 (variableCount (ruleIn R r)) (subst (List·Memᴰ x) (shape .inOrder) (shape .fromLeft x m)) .1))
+    few : variableCount (ruleIn R r) ≤ 4
+    few = omega (arith, rule-variables, ok .few r)
 
-      few : variableCount (ruleIn R r) ≤ 4
-      few = omega (arith, rule-variables, ok .few r)
+    four : (t : Term ℕ) → Each (λ x. x < variableCount (ruleIn R r)) t → Each (λ x. x < 4) t
+    four t = each-then _ _ (λ x l. omega (arith, few))
 
-      four : (t : Term ℕ) → Each (λ x. x < variableCount (ruleIn R r)) t → Each (λ x. x < 4) t
-      four t = each-then _ _ (λ x l. omega (arith, few))
+    -- The sides among the rule's own tokens.
+    module _ {tokens : List ℕ} (is : tokens ≡ own (rules .tokens) (r * 48)) where
+      left-read : sideAt arities tokens 0 (getD (rules .lefts) r 0) ≡ says (ruleIn R r .left)
+      left-read = rw (is, rule-is) (own-read arities (rules .tokens) (r * 48) 0 (getD (rules .lefts) r 0) (ruleAt arities rules r .left) (omega (arith, ok .sound r h .left-short))
+          (rw add-zero (ok .sound r h .left)))
 
-      -- The sides among the rule's own tokens.
-      module _ (tokens : List ℕ) (is : tokens ≡ own (rules .tokens) (r * 48)) where
-        left-read : sideAt arities tokens 0 (getD (rules .lefts) r 0) ≡ says (ruleIn R r .left)
-        left-read = rw (is, rule-is) (own-read arities (rules .tokens) (r * 48) 0 (getD (rules .lefts) r 0) (ruleAt arities rules r .left) (omega (arith, ok .sound r h .left-short)) (rw add-zero (ok .sound r h .left)))
+      right-read : sideAt arities tokens 24 (getD (rules .rights) r 0) ≡ says (ruleIn R r .right)
+      right-read = rw (is, rule-is) (own-read arities (rules .tokens) (r * 48) 24 (getD (rules .rights) r 0) (ruleAt arities rules r .right) (omega (arith, ok .sound r h .right-short))
+          (ok .sound r h .right))
 
-        right-read : sideAt arities tokens 24 (getD (rules .rights) r 0) ≡ says (ruleIn R r .right)
-        right-read = rw (is, rule-is) (own-read arities (rules .tokens) (r * 48) 24 (getD (rules .rights) r 0) (ruleAt arities rules r .right) (omega (arith, ok .sound r h .right-short)) (ok .sound r h .right))
+      pub rule-told : {v : ℕ} → v ≡ variableCount (ruleIn R r) → Told arities tokens v (ruleIn R r)
+      rule-told {v} e = record {
+        spelled = record {
+          after-left = _;
+          after-right = _;
+          left = side-spells arities tokens 0 (getD (rules .lefts) r 0) (ruleIn R r .left) left-read;
+          right = side-spells arities tokens 24 (getD (rules .rights) r 0) (ruleIn R r .right) right-read;
+          left-four = four (ruleIn R r .left) (left-over (variableCount (ruleIn R r)) refl);
+          right-four = four (ruleIn R r .right) (right-over (variableCount (ruleIn R r)) refl);
+        };
+        left-below = left-over v e;
+        right-below = right-over v e;
+        not-bare = shape .notBare;
+      }
 
-        pub rule-told : (v : ℕ) → v ≡ variableCount (ruleIn R r) → Told arities words heads tokens k v groups (ruleIn R r)
-        rule-told v e = record {
-          spelled = record {
-            after-left = _;
-            after-right = _;
-            left = side-spells arities tokens 0 (getD (rules .lefts) r 0) (ruleIn R r .left) left-read;
-            right = side-spells arities tokens 24 (getD (rules .rights) r 0) (ruleIn R r .right) right-read;
-            left-four = four (ruleIn R r .left) (left-over (variableCount (ruleIn R r)) refl);
-            right-four = four (ruleIn R r .right) (right-over (variableCount (ruleIn R r)) refl);
-          };
-          left-below = left-over v e;
-          right-below = right-over v e;
-          not-bare = shape .notBare;
-          grouped = ok .grouped;
-        }
+      left-standing : Stands arities tokens 0
+      left-standing =
+          let spelled = rule-told refl .spelled in
+          let short = side-short arities tokens 0 (getD (rules .lefts) r 0) (ruleIn R r .left) left-read in
+          record { term = ruleIn R r .left; rest = _; spells = spelled .left; room = omega (arith, short, ok .sound r h .left-short); four = spelled .left-four }
 
-        right-standing : Stands arities tokens 24
-        right-standing = record { term = ruleIn R r .right; rest = _; spells = side-spells arities tokens 24 (getD (rules .rights) r 0) (ruleIn R r .right) right-read; room = omega (arith, side-short arities tokens 24 (getD (rules .rights) r 0) (ruleIn R r .right) right-read, ok .sound r h .right-short); four = four (ruleIn R r .right) (right-over (variableCount (ruleIn R r)) refl) }
+      right-standing : Stands arities tokens 24
+      right-standing =
+          let spelled = rule-told refl .spelled in
+          let short = side-short arities tokens 24 (getD (rules .rights) r 0) (ruleIn R r .right) right-read in
+          record { term = ruleIn R r .right; rest = _; spells = spelled .right; room = omega (arith, short, ok .sound r h .right-short); four = spelled .right-four }
 
-        -- The left side is no bare variable, so its first token is a symbol's.
-        symbol-first : length tokens ≡ 48 → getD tokens 0 0 < 64
-        symbol-first long = elim (decLt (getD tokens 0 0) 64) [
-          | yes h ↦ h
-          | no n ↦ absurd (shape .notBare _ (variable-here arities tokens 0 (omega (arith, long)) (past n) (ruleIn R r .left) _ (side-spells arities tokens 0 (getD (rules .lefts) r 0) (ruleIn R r .left) left-read) .0))
-        ]
-          where
-            past : (getD tokens 0 0 < 64 → ⊥) → 64 ≤ getD tokens 0 0
-            past n = omega arith
+      -- The left side is no bare variable, so its first token is a symbol's.
+      symbol-first : length tokens ≡ 48 → getD tokens 0 0 < 64
+      symbol-first long = elim (decLt (getD tokens 0 0) 64) [
+        | yes h ↦ h
+        | no n ↦ absurd (shape .notBare _ (variable-here arities tokens 0 (omega (arith, long)) (past n) (ruleIn R r .left) _
+            (side-spells arities tokens 0 (getD (rules .lefts) r 0) (ruleIn R r .left) left-read) .0))
+      ]
+        where
+          past : (getD tokens 0 0 < 64 → ⊥) → 64 ≤ getD tokens 0 0
+          past n = omega arith
 
-        pub rule-judgeable : (m : List (List ℕ)) → length (rules .tokens) ≡ 1536 → 52 * k ≤ length m → Judgeable arities words heads tokens k m
-        rule-judgeable m long room =
-            let told = rule-told (variableCount (ruleIn R r)) refl in
-            let tokens-long : length tokens ≡ 48 = ap length is ∙ own-long (rules .tokens) (r * 48) (omega (arith, ok .most-rules)) in
-            record {
-              ready = tables-ready;
-              tokens-long = tokens-long;
-              left = record { term = ruleIn R r .left; rest = _; spells = told .spelled .left; room = omega (arith, side-short arities tokens 0 (getD (rules .lefts) r 0) (ruleIn R r .left) left-read, ok .sound r h .left-short); four = told .spelled .left-four };
-              right = right-standing;
-              symbol = symbol-first tokens-long;
-              room = room;
-            }
+      tokens-long : length (rules .tokens) ≡ 1536 → length tokens ≡ 48
+      tokens-long long = ap length is ∙ own-long (rules .tokens) (r * 48) (omega (arith, ok .most-rules))
 
-        -- The right side's block is one of all 52.
-        pub rule-right : blockOf tokens 24 < 52
-        rule-right = block-room arities tokens 24 right-standing
+      pub rule-judgeable : {m : List (List ℕ)} → length (rules .tokens) ≡ 1536 → 52 * k ≤ length m → Judgeable arities words heads tokens k m
+      rule-judgeable long room =
+          record {
+            ready = tables-ready;
+            tokens-long = tokens-long long;
+            left = left-standing;
+            right = right-standing;
+            symbol = symbol-first (tokens-long long);
+            room = room;
+          }
 
+      -- What naming the classes that lead relies on.
+      pub rule-given : {x : ℕ} → length (rules .tokens) ≡ 1536 → x < 4 → RuleGiven words heads arities tokens x
+      rule-given long low =
+          let left = left-standing in
+          let right = right-standing in
+          record {
+            indexed = ok .indexed;
+            long = tokens-long long;
+            ranks = ok .ranks;
+            left = record { term = left .term; rest = left .rest; spells = left .spells };
+            right = record { term = right .term; rest = right .rest; spells = right .spells };
+            variable = low;
+          }
+
+      -- The right side's block is one of all 52.
+      pub rule-right : blockOf tokens 24 < 52
+      rule-right = block-room arities tokens 24 right-standing
+
+module _ (arities words heads : List ℕ) (rules : Rules) (k : ℕ) where
   -- The numbers of a rule.
-  pub record Ruled (groups : List ℕ) (budget most size r : ℕ) (tokens : List ℕ) (v lanes passed1 passed0 m0 m1 m2 variables right : ℕ) : Type 0 where
-    pub ok : Searchable arities words heads rules k groups
+  pub record Ruled (budget most size r : ℕ) (tokens : List ℕ) (v lanes passed1 passed0 m0 m1 m2 variables right leads1 : ℕ) : Type 0 where
+    pub ok : Searchable arities words heads rules k
     pub small : budget < 4294967296
     pub listed : r < rules .count
     pub long : length (rules .tokens) ≡ 1536
     pub is-most : most ≡ budget
     pub is-size : size ≡ k
     pub is-tokens : tokens ≡ own (rules .tokens) (r * 48)
-    pub is-v : v ≡ variableCount (ruleIn R r)
+    pub is-v : v ≡ variableCount (ruleIn (rulesOf arities rules) r)
     pub is-variables : variables ≡ v
     pub is-right : right ≡ blockOf tokens 24 * k
     pub few : v ≤ 4
@@ -221,15 +250,17 @@ module _ (arities words heads : List ℕ) (rules : Rules) (k : ℕ) where
     pub m0-is : m0 ≡ choices k v 0
     pub m1-is : m1 ≡ choices k v 1
     pub m2-is : m2 ≡ choices k v 2
+    pub led : Led (automatonOf arities words heads k) (ruleIn (rulesOf arities rules) r) 1 leads1
 
   -- A block whose lanes are looked at one by one: j of them are passed since `start`, and n substitutions are examined.
   pub record Lanes (budget r v x0 x1 x2 right : ℕ) (m : List (List ℕ)) (start j n : ℕ) : Type 0 where
-    pub run : Run M R r (ruleIn R r) (take (v - rest v 3) (x0 ∷ (x1 ∷ (x2 ∷ [])))) (rest v 3) start
-    pub each : (j : ℕ) → j < k ^ rest v 3 → (q : ℕ) → less (lane k m 0 j) (lane k m right j) q ≡ isCritical M (ruleIn R r) (chosen v x0 x1 x2 j) q
+    pub run : Run (automatonOf arities words heads k) (rulesOf arities rules) r (ruleIn (rulesOf arities rules) r) (take (v - rest v 3) (x0 ∷ (x1 ∷ (x2 ∷ [])))) (rest v 3) start
+    pub each : (j : ℕ) → j < k ^ rest v 3 → (q : ℕ)
+        → less (lane k m 0 j) (lane k m right j) q ≡ isCritical (automatonOf arities words heads k) (ruleIn (rulesOf arities rules) r) (chosen v x0 x1 x2 j) q
     pub low0 : x0 < k
     pub low1 : x1 < k
     pub low2 : x2 < k
     pub upto : j ≤ k ^ rest v 3
     pub place : n ≡ start + j
     pub within : n ≤ budget
-    pub clear : Clear M R n
+    pub clear : Clear (automatonOf arities words heads k) (rulesOf arities rules) n

@@ -101,7 +101,7 @@ module _ (M : Automaton) (R : List Rule) where
       let run : Run r (ruleIn R r) [] v n = subst (Run r (ruleIn R r) [] v) (sym is-n) (run-rule r v h is-v) in
       level-start v 0 r (ruleIn R r) [] budget n (subst (λ w. Run r (ruleIn R r) (take (v - rest v 0) []) w n) (sym (rest-all v)) (subst (λ l. Run r (ruleIn R r) l v n) none run)) refl within clear
 
-  module _ (v i r : ℕ) (rule : Rule) (xs : List ℕ) (budget start y n : ℕ) (t : Level v i r rule xs budget start y n) where
+  module _ {v i r : ℕ} {rule : Rule} {xs : List ℕ} {budget start y n : ℕ} (t : Level v i r rule xs budget start y n) where
     pub level-end : choices (M .states) v i ≤ y → n ≡ start + M .states ^ rest v i
     level-end h =
         let e : y ≡ choices (M .states) v i = omega (arith, t .upto) in
@@ -120,7 +120,9 @@ module _ (M : Automaton) (R : List Rule) where
       pub level-run : Run r rule (take (v - rest v (i + 1)) (xs ++ (y ∷ []))) (rest v (i + 1)) n
       unfolding rest
       level-run = elim (decLt (i + 1) v) [
-        | yes h ↦ subst (Run r rule (take (v - rest v (i + 1)) (xs ++ (y ∷ []))) (rest v (i + 1))) (sym (t .place)) (subst (λ l. Run r rule l (rest v (i + 1)) (start + y * M .states ^ rest v (i + 1))) (sym (level-prefix h)) (run-more r rule xs (rest v (i + 1)) start y (omega (arith, choices-in (M .states) v i h)) (earlier h)))
+        | yes h ↦ subst (Run r rule (take (v - rest v (i + 1)) (xs ++ (y ∷ []))) (rest v (i + 1))) (sym (t .place))
+            (subst (λ l. Run r rule l (rest v (i + 1)) (start + y * M .states ^ rest v (i + 1))) (sym (level-prefix h))
+            (run-more r rule xs (rest v (i + 1)) start y (omega (arith, choices-in (M .states) v i h)) (earlier h)))
         | no nh ↦ last (omega arith)
       ]
         where
@@ -131,7 +133,8 @@ module _ (M : Automaton) (R : List Rule) where
           few h = omega arith
 
           earlier : i + 1 < v → Run r rule xs (suc (rest v (i + 1))) start
-          earlier h = subst (λ w. Run r rule xs w start) (rest-in (M .states) v i h) (subst (λ l. Run r rule l (rest v i) start) (ap (λ m. take m xs) (before h) ∙ take-all i xs (omega (arith, t .long))) (t .run))
+          earlier h = subst (λ w. Run r rule xs w start) (rest-in (M .states) v i h)
+              (subst (λ l. Run r rule l (rest v i) start) (ap (λ m. take m xs) (before h) ∙ take-all i xs (omega (arith, t .long))) (t .run))
 
           last : v ≤ i + 1 → Run r rule (take (v - rest v (i + 1)) (xs ++ (y ∷ []))) (rest v (i + 1)) n
           last h =
@@ -171,7 +174,8 @@ module _ (M : Automaton) (R : List Rule) where
     }
 
   -- A lane of the block that comes next.
-  pub lane-at : (v r : ℕ) (rule : Rule) (x0 x1 x2 n : ℕ) → v ≤ 4 → Run r rule (take (v - rest v 3) (x0 ∷ (x1 ∷ (x2 ∷ [])))) (rest v 3) n → (j : ℕ) → j < M .states ^ rest v 3 → caseAt (n + j) ≡ case r rule (chosen v x0 x1 x2 j)
+  pub lane-at : (v r : ℕ) (rule : Rule) (x0 x1 x2 n : ℕ) → v ≤ 4 → Run r rule (take (v - rest v 3) (x0 ∷ (x1 ∷ (x2 ∷ [])))) (rest v 3) n → (j : ℕ) → j < M .states ^ rest v 3
+      → caseAt (n + j) ≡ case r rule (chosen v x0 x1 x2 j)
   unfolding rest chosen substitutions
   lane-at v r rule x0 x1 x2 n few run j hj = run .each j hj ∙ ap (case r rule) (classes v few j hj)
     where
@@ -196,7 +200,8 @@ module _ (M : Automaton) (R : List Rule) where
   pub out-stopped : (budget : ℕ) → budget < length all → Clear budget → Outcome M all budget 0 (Closure.stopped budget)
   out-stopped budget h clear = (quiet budget clear, h, omega arith)
 
-  pub out-critical : (budget n r : ℕ) (rule : Rule) (σ : List ℕ) (q : ℕ) → n < length all → n + 1 ≤ budget → Clear n → caseAt n ≡ case r rule σ → Smallest (CriticalFor M (case r rule σ)) q → Outcome M all budget 0 (Closure.critical r σ q (n + 1))
+  pub out-critical : (budget n r : ℕ) (rule : Rule) (σ : List ℕ) (q : ℕ) → n < length all → n + 1 ≤ budget → Clear n → caseAt n ≡ case r rule σ
+      → Smallest (CriticalFor M (case r rule σ)) q → Outcome M all budget 0 (Closure.critical r σ q (n + 1))
   out-critical budget n r rule σ q long h clear e least = (
     n + 1,
     record {

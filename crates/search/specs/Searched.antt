@@ -1,4 +1,4 @@
--- What the search is told: the merged automaton as words, the rules as tokens, groups of alike classes if there are some, and rows for the values; and what it has to find.
+-- What the search is told: the merged automaton as words, the rules as tokens, and rows for the values; and what it has to find.
 use mathlib.Core.Path.{_≡_}
 use mathlib.Core.Bool.{false}
 use mathlib.Core.Logic.{_⊎_}
@@ -16,13 +16,12 @@ use Rattle.tables.specs.declared.Rules.{Rules}
 use Rattle.woven.specs.Woven.{wovenMoves, Indexed}
 use Rattle.sets.specs.Sets.{mem}
 use Rattle.values.specs.Standing.{Each, Spelled}
-use Rattle.alike.specs.Groups.{Grouped}
 use Rattle.alike.specs.Needed.{Before}
 use Rattle.lanes.specs.Automaton.{automatonOf}
 use Rattle.lanes.specs.Blocks.{Calm}
 
 -- What the search relies on.
-pub record Searchable (arities words heads : List ℕ) (rules : Rules) (k : ℕ) (groups : List ℕ) : Type 0 where
+pub record Searchable (arities words heads : List ℕ) (rules : Rules) (k : ℕ) : Type 0 where
   pub indexed : Indexed words heads
   pub in-range : InRange (automatonOf arities words heads k)
   pub arguments : (tr : Transition) → List·Memᴰ tr (wovenMoves arities words (getD heads 64 0)) → (c : ℕ) → List·Memᴰ c (tr .arguments) → c < k
@@ -33,15 +32,13 @@ pub record Searchable (arities words heads : List ℕ) (rules : Rules) (k : ℕ)
   pub most-rules : rules .count ≤ 32
   pub some-class : 1 ≤ k
   pub most-classes : k ≤ 64
-  pub grouped : length groups ≡ 12288 → Grouped (wovenMoves arities words (getD heads 64 0)) groups
 
 -- What is known of the rule of these tokens, with v variables.
-pub record Told (arities words heads tokens : List ℕ) (k v : ℕ) (groups : List ℕ) (rule : Rule) : Type 0 where
+pub record Told (arities tokens : List ℕ) (v : ℕ) (rule : Rule) : Type 0 where
   pub spelled : Spelled arities tokens rule
   pub left-below : Each (λ x. x < v) (rule .left)
   pub right-below : Each (λ x. x < v) (rule .right)
   pub not-bare : (x : ℕ) → rule .left ≡ var x → ⊥
-  pub grouped : length groups ≡ 12288 → Grouped (wovenMoves arities words (getD heads 64 0)) groups
 
 -- The classes of the variable after a prefix that are gone into: with every other one there is no critical pair, or a smaller class gives both sides of the rule the same value.
 pub record Opened (M : Automaton) (rule : Rule) (v : ℕ) (xs : List ℕ) (mask : ℕ) : Type 0 where

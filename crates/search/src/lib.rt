@@ -18,10 +18,44 @@ ghost use Rattle.paper.specs.Meaning.{Asked};
 ghost use Rattle.verdicts.specs.Said.{Tells};
 ghost use Rattle.lanes.specs.Automaton.{automatonOf};
 ghost use Rattle.lanes.specs.Blocks.{Judgeable, Prefix, Long};
+ghost use Rattle.alike.specs.Needed.{RuleGiven, Led};
 ghost use Rattle.search.specs.Searched.{Searchable, Told, Opened, searched};
 
-// The classes of the variable after the prefix that are gone into: with every other one there is no critical pair, or a smaller class gives both sides
-// the same value.
+// How many classes are few: then there is little to pass over.
+const FEW: usize = 8;
+
+const ALL: u64 = 18446744073709551615;
+
+// The classes of the variable x, of v, that lead: for every other one a smaller class gives both sides the same value. All of them where the variable
+// is one of the last two, which are not chosen one after the other, and where no class of the variable before it is gone into.
+fn leading<'a>(
+    words: &'a [u64; 128],
+    heads: &'a [u8; 65],
+    arities: &'a [u8],
+    tokens: &'a [u8],
+    k: usize,
+    v: u8,
+    x: u8,
+    before: u64,
+) -> u64
+    requires { ⌜ RuleGiven (now words) (now heads) (now arities) (now tokens) x ⌝ }
+    ensures { λ r. ⌜ ((rule : Rule) → Told (now (arities .entry)) (now (tokens .entry)) v rule
+        → Led (automatonOf (now (arities .entry)) (now (words .entry)) (now (heads .entry)) k) rule x r) ⌝ }
+{
+    if v < x + 3 {
+        return ALL;
+    }
+    if k <= FEW {
+        return ALL;
+    }
+    if before == 0 {
+        return ALL;
+    }
+    needed(words, heads, arities, tokens, x)
+}
+
+// The classes of the variable after the prefix that are gone into, of those that lead: with every other one there is no critical pair, or a
+// smaller class gives both sides the same value.
 fn opened<'a>(
     words: &'a [u64; 128],
     heads: &'a [u8; 65],
@@ -30,16 +64,16 @@ fn opened<'a>(
     k: usize,
     v: usize,
     xs: &'a [u8],
-    groups: &'a [u64],
+    leads: u64,
     m: &mut [[u64; 8]],
 ) -> u64
     requires { ⌜ Judgeable (now arities) (now words) (now heads) (now tokens) k (now m) × (v ≤ 4) × Prefix k 2 (now xs) ⌝ }
-    ensures { λ r. ⌜ ((rule : Rule) → Told (now (arities .entry)) (now (words .entry)) (now (heads .entry)) (now (tokens .entry)) k v (now (groups .entry)) rule
+    ensures { λ r. ⌜ ((rule : Rule) → Told (now (arities .entry)) (now (tokens .entry)) v rule
+        → Led (automatonOf (now (arities .entry)) (now (words .entry)) (now (heads .entry)) k) rule (length (now (xs .entry))) leads
         → Opened (automatonOf (now (arities .entry)) (now (words .entry)) (now (heads .entry)) k) rule v (now (xs .entry)) r)
         × Long (now (m .entry)) (now (m .exit)) ⌝ }
 {
-    let looked_at = needed(groups, arities, tokens, xs.len() as u8);
-    open(words, heads, arities, tokens, k, v, xs, looked_at, m)
+    open(words, heads, arities, tokens, k, v, xs, leads, m)
 }
 
 // The first critical pair among the first `budget` substitutions, k classes being there; closed where there is none at all. The rows are lent for the values.
@@ -50,10 +84,9 @@ pub fn search<'a>(
     rules: Rules,
     k: usize,
     budget: u32,
-    groups: &'a [u64],
     m: &mut [[u64; 8]],
 ) -> Closure
-    requires { ⌜ Searchable (now arities) (now words) (now heads) rules k (now groups) × (52 * k ≤ length (now m)) ⌝ }
+    requires { ⌜ Searchable (now arities) (now words) (now heads) rules k × (52 * k ≤ length (now m)) ⌝ }
     ensures { λ r. ⌜ Tells (Asked.answered (searched (now (arities .entry)) (now (words .entry)) (now (heads .entry)) rules k budget)) r ⌝ }
 {
     let all = rules.tokens;
@@ -79,6 +112,7 @@ pub fn search<'a>(
         let m2 = tries(size, v, 2);
         let variables = v as usize;
         let right = block_of(tokens, 24) * k;
+        let leads0 = leading(words, heads, arities, tokens, k, v, 0, ALL);
         let none = [0u8; 0];
         let open0 = opened(
             words,
@@ -88,14 +122,15 @@ pub fn search<'a>(
             k,
             variables,
             &none,
-            groups,
+            leads0,
             m,
         );
+        let leads1 = leading(words, heads, arities, tokens, k, v, 1, open0);
         let mut x0: u64 = 0;
         'first: while x0 < m0 {
             if has(open0, x0) {
                 let one = [x0 as u8];
-                let open1 = opened(words, heads, arities, tokens, k, variables, &one, groups, m);
+                let open1 = opened(words, heads, arities, tokens, k, variables, &one, leads1, m);
                 let mut x1: u64 = 0;
                 'second: while x1 < m1 {
                     if has(open1, x1) {

@@ -1,18 +1,13 @@
 -- The marks are fixed: two tables of 64 words that mark exactly the pairs that share a tree are equal.
-use mathlib.Core.Path.{_≡_, refl, sym}
-use mathlib.Core.Bool.{Bool, true, false}
+use mathlib.Core.Path.{_≡_}
 use mathlib.Core.List.{List}
 use Prim.Native.Nat.{ℕ}
 use lib.ListN.{length, getD}
 use lib.Seq.{ext-getD}
+use Rattle.theory.proofs.Bools.{same-test}
 use Rattle.sets.specs.Sets.{mem}
 use Rattle.sets.proofs.Laws.{mem-ext}
 use Rattle.sharing.specs.Share.{Words, Exact}
-
-same-test : (a b : Bool) → (a ≡ true → b ≡ true) → (b ≡ true → a ≡ true) → a ≡ b
-same-test true b f g = sym (f refl)
-same-test false true f g = g refl
-same-test false false f g = refl
 
 pub one-marking : (merged bad ar xs ys : List ℕ) → length xs ≡ length ys → Words xs → Words ys → Exact merged bad ar xs → Exact merged bad ar ys → xs ≡ ys
 one-marking merged bad ar xs ys long ws vs e f =

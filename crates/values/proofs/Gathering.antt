@@ -1,166 +1,62 @@
--- Words gathered into a block one after the other.
+-- The words of a symbol gathered into a block: those of one target joined into its row, and the rows one after the other.
 use mathlib.Core.Path.{_≡_, refl, sym, ap, ap₂, _∙_, fun-ext}
-use mathlib.Core.Bool.{Bool, true, false, _&&_, _||_, and-false, or-false, or-true, or-assoc, and-or-distrib-left}
+use mathlib.Core.Bool.{Bool, true, false, _&&_, _||_, or-false, or-assoc, false≢true}
 use mathlib.Core.Logic.{inl, inr}
-use mathlib.Core.List.{List, [], _∷_, map}
+use mathlib.Core.List.{List, [], _∷_, map, Memᴰ·map, Memᴰ·of-map}
 use Prim.Native.Nat.{ℕ, zero, suc, _+_, _-_, _≤_, _<_}
-use native.Mathlib.Nat.{add-zero, zero-add}
-use native.Mathlib.Numerals.{add-one}
-use native.Mathlib.Decide.{decLt}
+use native.Mathlib.Nat.{add-zero}
+use native.Mathlib.Decide.{decLt, ℕ-discrete}
 use native.Mathlib.Omega.{arith}
-use lib.Dec.{eqb, ltb}
-use lib.ListN.{length, getD, set, take}
-use borrow.Author.Tests.{lt-ltb, ltb-true, eq-eqb, ne-eqb, eqb-true, eqb-false}
+use lib.ListN.{getD, set, take, replicate}
+use lib.Seq.{getD-set-same, getD-set-other}
+use borrow.Author.Count.{below-more}
+use borrow.Author.Tests.{lt-ltb, le-ltb}
 use Rattle.theory.specs.Lists.{countFrom, any}
+use Rattle.theory.proofs.Tests.{match-iff, any-sound, any-complete}
+use Rattle.theory.proofs.Count.{mem-order, order-mem}
+use Rattle.theory.proofs.Bools.{same-test}
 use Rattle.sets.specs.Sets.{Set}
-use Rattle.woven.specs.Woven.{part, moveOf, wovenMoves, Indexed}
+use Rattle.woven.specs.Woven.{part, moveOf, wovenMoves}
 use Rattle.woven.proofs.Indexing.{none-before, none-after, within}
 use Rattle.values.specs.Sets.{drawn, fires, gathered}
 use Rattle.values.specs.Lanes.{lit, lane}
-use Rattle.values.specs.Rows.{allLit, PutIn, Apart, Blank, Within}
-use Rattle.values.proofs.Rows.{ones, all-lit, put-in}
+use Rattle.values.specs.Rows.{allLit, Apart, Within, Joined, Runnable, RunOf, Gatherable, Gathered}
+use Rattle.values.proofs.Rows.{none-lit, store-within}
 
 -- One number more.
-some-last : {Y : Type 0} (g : ℕ → Y) (test : Y → Bool) (a n : ℕ) → any (map g (countFrom a (suc n))) test ≡ (any (map g (countFrom a n)) test || test (g (a + n)))
+some-last : (test : ℕ → Bool) (a n : ℕ) → any (countFrom a (suc n)) test ≡ (any (countFrom a n) test || test (a + n))
 unfolding any countFrom
-some-last g test a zero = or-false (test (g a)) ∙ ap (λ k. test (g k)) (sym (add-zero a))
-some-last g test a (suc n) =
-    ap (λ b. test (g a) || b) (some-last g test (suc a) n)
-    ∙ sym (or-assoc (test (g a)) (any (map g (countFrom (suc a) n)) test) (test (g (suc a + n))))
-    ∙ ap (λ k. any (map g (countFrom a (suc n))) test || test (g k)) (omega arith)
+some-last test a zero = or-false (test a) ∙ ap test (sym (add-zero a))
+some-last test a (suc n) =
+    ap (λ b. test a || b) (some-last test (suc a) n)
+    ∙ sym (or-assoc (test a) (any (countFrom (suc a) n) test) (test (suc a + n)))
+    ∙ ap (λ k. any (countFrom a (suc n)) test || test k) (omega arith)
 
--- A place among the words of f, up to their end.
-pub record Among (heads : List ℕ) (f end i : ℕ) : Type 0 where
-  pub last : end ≡ getD heads (f + 1) 0
-  pub low : getD heads f 0 ≤ i
-  pub high : i ≤ end
+-- The words of one target, one after the other.
+module _ {words : List ℕ} {n q from : ℕ} {m : List (List ℕ)} {kids : List ℕ} where
+  pub joined-none : Joined words n q from m kids (replicate 8 0) from
+  unfolding any countFrom
+  joined-none = record {
+    low = omega arith;
+    own = λ i lo hi. absurd (omega arith);
+    lanes-lit = λ l hl. let none : from - from ≡ 0 = omega arith in rw none (none-lit l);
+  }
 
-pub among-first : {words heads : List ℕ} {f at end i : ℕ} → Indexed words heads → f < 64 → at ≡ f → end ≡ getD heads (at + 1) 0 → i ≡ getD heads at 0 → Among heads f end i
-among-first {heads = heads} {f = f} d hf at last first =
-    record {
-      last = last ∙ ap (λ x. getD heads (x + 1) 0) at;
-      low = omega (arith, ap (λ x. getD heads x 0) at);
-      high = omega (arith, ap (λ x. getD heads x 0) at, ap (λ x. getD heads (x + 1) 0) at, d .sorted .order f hf);
-    }
-
-pub among-next : {heads : List ℕ} {f end i : ℕ} → Among heads f end i → i < end → Among heads f end (i + 1)
-among-next a h = record { last = a .last; low = omega (arith, a .low); high = omega arith }
-
-pub among-room : {words heads : List ℕ} {f end i : ℕ} → Indexed words heads → f < 64 → Among heads f end i → i < end → i < 128
-among-room {words} {heads} {f} d hf a h = omega (arith, a .last, within words heads d f hf, d .room)
-
-pub among-own : {words heads : List ℕ} {f end i : ℕ} → Indexed words heads → f < 64 → Among heads f end i → i < end → part (getD words i 0) 4 ≡ f
-among-own {f = f} {i = i} d hf a h = d .sorted .own f i hf (a .low) (omega (arith, a .last))
-
-module _ (arities words : List ℕ) (f : ℕ) (ss : List Set) where
-  -- What the first i words give.
-  abbrev pub upTo : ℕ → Set
-  upTo i = gathered (wovenMoves arities words i) f ss
-
-  one-word : (i q : ℕ) → upTo (i + 1) q ≡ (upTo i q || fires f ss q (moveOf arities (getD words i 0)))
-  unfolding gathered wovenMoves
-  one-word i q =
-      ap (λ n. any (map (λ i. moveOf arities (getD words i 0)) (countFrom 0 n)) (fires f ss q)) (add-one i)
-      ∙ some-last (λ i. moveOf arities (getD words i 0)) (fires f ss q) 0 i
-      ∙ ap (λ k. upTo i q || fires f ss q (moveOf arities (getD words k 0))) (zero-add i)
-
-  -- A word of another symbol gives nothing.
-  other-word : (i : ℕ) → (part (getD words i 0) 4 ≡ f → ⊥) → upTo (i + 1) ≡ upTo i
-  unfolding fires moveOf
-  other-word i ne = fun-ext (λ q.
-      one-word i q
-      ∙ ap (λ b. upTo i q || (b && eqb (part (getD words i 0) 3) q && drawn ss (moveOf arities (getD words i 0) .arguments))) (ne-eqb (part (getD words i 0) 4) f ne)
-      ∙ or-false (upTo i q))
-
-  other-words : (i d : ℕ) → ((r : ℕ) → i ≤ r → r < i + d → part (getD words r 0) 4 ≡ f → ⊥) → upTo (i + d) ≡ upTo i
-  other-words i zero ne = ap upTo (add-zero i)
-  other-words i (suc d) ne =
-      let e : i + suc d ≡ i + d + 1 = omega arith in
-      ap upTo e ∙ other-word (i + d) (ne (i + d) (omega arith) (omega arith)) ∙ other-words i d (λ r lo hi. ne r lo (omega arith))
-
-  -- The same up to a given place.
-  skipped : (i n : ℕ) → i ≤ n → ((r : ℕ) → i ≤ r → r < n → part (getD words r 0) 4 ≡ f → ⊥) → upTo n ≡ upTo i
-  skipped i n h ne = let e : n ≡ i + (n - i) = omega arith in ap upTo e ∙ other-words i (n - i) (λ r lo hi. ne r lo (omega arith))
-
-  module _ (heads : List ℕ) (d : Indexed words heads) (hf : f < 64) where
-    -- Before the first word of f nothing is given.
-    pub gather-start : (at i : ℕ) → at ≡ f → i ≡ getD heads at 0 → (s : Set) → ((q : ℕ) → s q ≡ false) → s ≡ upTo i
-    unfolding gathered wovenMoves any countFrom
-    gather-start at i e first s none =
-        fun-ext none ∙ sym (skipped 0 i (omega arith) (λ r lo hi. none-before words heads d f hf r (omega (arith, ap (λ x. getD heads x 0) e))))
-
-    -- After its last word nothing more is given.
-    pub gather-end : (end i : ℕ) → Among heads f end i → end ≤ i → upTo i ≡ upTo (getD heads 64 0)
-    gather-end end i a h =
-        sym (skipped i (getD heads 64 0) (omega (arith, a .last, a .high, within words heads d f hf)) (λ r lo hi. none-after words heads d f hf r (omega (arith, a .last)) hi))
-
-  abbrev target : ℕ → ℕ
-  target i = part (getD words i 0) 3
-
-  -- As many as the symbol g has.
-  abbrev arguments : ℕ → ℕ → List ℕ
-  arguments i g = take (getD arities g 0) (part (getD words i 0) 0 ∷ (part (getD words i 0) 1 ∷ (part (getD words i 0) 2 ∷ [])))
-
-  -- One word of f more: its target is given where its arguments are in the sets.
-  module _ (i : ℕ) (own : part (getD words i 0) 4 ≡ f) (b : Bool) (here : b ≡ drawn ss (arguments i f)) where
-    word-gives : (s : Set) (q : ℕ) → s ≡ upTo i → (s q || (eqb (target i) q && b)) ≡ upTo (i + 1) q
-    unfolding fires moveOf
-    word-gives s q inv =
-        ap₂ (λ a b. a || (eqb (target i) q && b)) (ap (λ (s : Set). s q) inv) here
-        ∙ ap (λ b. upTo i q || (b && eqb (target i) q && drawn ss (arguments i f))) (sym (eq-eqb f f refl))
-        ∙ ap (λ g. upTo i q || (eqb g f && eqb (target i) q && drawn ss (arguments i g))) (sym own)
-        ∙ sym (one-word i q)
-
-    pub word-more : (t : ℕ) (s after : Set) → t ≡ target i → ((q : ℕ) → after q ≡ (s q || (eqb t q && b))) → s ≡ upTo i → after ≡ upTo (i + 1)
-    word-more t s after e more inv = fun-ext (λ q. more q ∙ ap (λ n. s q || (eqb n q && b)) e ∙ word-gives s q inv)
-
--- Lane l of the block at row `out`.
-module _ (k : ℕ) (m : List (List ℕ)) (out l : ℕ) where
-  pub blank-lane : Blank k m out → l < 512 → (q : ℕ) → lane k m out l q ≡ false
-  blank-lane z hl q = go (ltb q k) refl
-    where
-      go : (b : Bool) → ltb q k ≡ b → (b && lit (getD m (out + q) []) l) ≡ false
-      go true e = z q l (ltb-true q k e) hl
-      go false e = refl
-
-  -- The lanes x are joined to its row t.
-  unfoldable pub held : ℕ → List ℕ → Set
-  held t x q = lane k m out l q || (eqb t q && lit x l)
-
-  pub held-none : (t : ℕ) (x : List ℕ) → lit x l ≡ false → held t x ≡ lane k m out l
-  unfolding held
-  held-none t x none = fun-ext (λ q. ap (λ b. lane k m out l q || (eqb t q && b)) none ∙ rw and-false (or-false (lane k m out l q)))
-
-  pub held-more : (t : ℕ) (x y : List ℕ) (b : Bool) → lit y l ≡ (lit x l || b) → (q : ℕ) → held t y q ≡ (held t x q || (eqb t q && b))
-  unfolding held
-  held-more t x y b e q =
-      ap (λ b. lane k m out l q || (eqb t q && b)) e ∙ rw (and-or-distrib-left (eqb t q)) (sym (or-assoc (lane k m out l q) (eqb t q && lit x l) (eqb t q && b)))
-
-  module _ (t : ℕ) (x : List ℕ) (after : List (List ℕ)) (ht : t < k) (hl : l < 512) (p : PutIn m (out + t) x after) where
-    -- They are put in.
-    pub held-put : (q : ℕ) → lane k after out l q ≡ (lane k m out l q || (eqb t q && lit x l))
-    held-put q = go (eqb t q) refl
-      where
-        go : (b : Bool) → eqb t q ≡ b → lane k after out l q ≡ (lane k m out l q || (b && lit x l))
-        go true e =
-            ap (lane k after out l) (sym (eqb-true t q e))
-            ∙ ap₂ _&&_ (lt-ltb t k ht) (p .put l hl)
-            ∙ ap (λ b. (b && lit (getD m (out + t) []) l) || lit x l) (sym (lt-ltb t k ht))
-            ∙ ap (λ n. lane k m out l n || lit x l) (eqb-true t q e)
-        go false e =
-            ap (λ r. ltb q k && lit r l) (p .same (out + q) (λ s. eqb-false t q e (omega arith)))
-            ∙ sym (or-false (lane k m out l q))
-
--- They are put in, and another row is begun.
-pub held-begun : (k : ℕ) (m after : List (List ℕ)) (out l t : ℕ) (x : List ℕ) (u : ℕ) (y : List ℕ)
-    → t < k → l < 512 → PutIn m (out + t) x after → lit y l ≡ false → held k after out l u y ≡ held k m out l t x
-unfolding held
-held-begun k m after out l t x u y ht hl p none = held-none k after out l u y none ∙ fun-ext (held-put k m out l t x after ht hl p)
-
--- A row of all ones is put in.
-pub all-put : (m : List (List ℕ)) (i : ℕ) → i < length m → PutIn m i ones (set m i ones)
-all-put m i h =
-    put-in m i ones ones h (λ l hl. all-lit l hl ∙ sym (ap (_||_ (lit (getD m i []) l)) (all-lit l hl) ∙ or-true (lit (getD m i []) l)))
+  pub joined-more : {lanes more : List ℕ} {i : ℕ} → part (getD words i 0) 3 ≡ q → ((l : ℕ) → l < 512 → lit more l ≡ (lit lanes l || allLit m n (getD words i 0) kids l))
+      → Joined words n q from m kids lanes i → Joined words n q from m kids more (i + 1)
+  joined-more {i = i} target gained old = record {
+    low = omega (arith, old .low);
+    own = λ p lo hi. below-more (λ p. from ≤ p → part (getD words p 0) 3 ≡ q) i (λ p h lo. old .own p lo h) (λ lo. target) p hi lo;
+    lanes-lit = λ l hl.
+        let test : ℕ → Bool = λ p. allLit m n (getD words p 0) kids l in
+        let more : i + 1 - from ≡ suc (i - from) = omega (arith, old .low) in
+        let last : from + (i - from) ≡ i = omega (arith, old .low) in
+        gained l hl
+        ∙ ap (λ b. b || test i) (old .lanes-lit l hl)
+        ∙ ap (λ p. any (countFrom from (i - from)) test || test p) (sym last)
+        ∙ sym (some-last test from (i - from))
+        ∙ ap (λ k. any (countFrom from k) test) (sym more);
+  }
 
 -- Sets that agree on the classes that are drawn.
 drawn-same : (n : ℕ) (F G : ℕ → Set) (xs qs : List ℕ) → ((j : ℕ) → j < n → F (getD xs j 0) (getD qs j 0) ≡ G (getD xs j 0) (getD qs j 0))
@@ -189,7 +85,7 @@ module _ (k : ℕ) (m : List (List ℕ)) (out : ℕ) (after : List (List ℕ)) (
     ]
   ])
 
-  pub kids-drawn : (n w : ℕ) (kids : List ℕ) (l : ℕ) → n ≤ 3 → ((j : ℕ) → j < n → part w j < k) → ((j : ℕ) → j < n → Apart k (getD kids j 0) out)
+  kids-drawn : (n w : ℕ) (kids : List ℕ) (l : ℕ) → n ≤ 3 → ((j : ℕ) → j < n → part w j < k) → ((j : ℕ) → j < n → Apart k (getD kids j 0) out)
       → allLit after n w kids l ≡ drawn (take n (map (λ a. lane k m a l) kids)) (take n (part w 0 ∷ (part w 1 ∷ (part w 2 ∷ []))))
   unfolding allLit
   kids-drawn n w kids l few below apart =
@@ -200,3 +96,136 @@ module _ (k : ℕ) (m : List (List ℕ)) (out : ℕ) (after : List (List ℕ)) (
       ∙ ap (λ r. lit r l) (row-kept a (part w j) (apart j h) (below j h))
       ∙ ap (λ b. b && lit (getD m (a + part w j) []) l) (sym (lt-ltb (part w j) k (below j h)))
       ∙ ap (lane k m a l) (sym p))
+
+-- The classes that the words of f give in lane l for arguments from the first n blocks.
+abbrev reached : (words heads : List ℕ) (f n k : ℕ) (m : List (List ℕ)) (kids arities : List ℕ) (l : ℕ) → Set
+reached words heads f n k m kids arities l = gathered (wovenMoves arities words (getD heads 64 0)) f (take n (map (λ a. lane k m a l) kids))
+
+-- The words of f from place i on are those with a target from q on, and the rows before q have their classes.
+pub record RowsDone (words heads : List ℕ) (f n k : ℕ) (m₀ : List (List ℕ)) (kids : List ℕ) (out end : ℕ) (m : List (List ℕ)) (i q : ℕ) : Type 0 where
+  pub last : end ≡ getD heads (f + 1) 0
+  pub low : getD heads f 0 ≤ i
+  pub high : i ≤ end
+  pub few : q ≤ k
+  pub before : (p : ℕ) → getD heads f 0 ≤ p → p < i → part (getD words p 0) 3 < q
+  pub after : (p : ℕ) → i ≤ p → p < end → q ≤ part (getD words p 0) 3
+  pub only : Within k m₀ out m
+  pub done : (arities : List ℕ) → getD arities f 0 ≡ n → (l : ℕ) → l < 512 → (p : ℕ) → p < q
+      → lit (getD m (out + p) []) l ≡ reached words heads f n k m₀ kids arities l p
+
+module _ {words heads : List ℕ} {f n k : ℕ} {m₀ : List (List ℕ)} {kids : List ℕ} {out : ℕ} (g : Gatherable words heads f n k m₀ kids out) where
+  pub rows-begun : {at end i : ℕ} → at ≡ f → end ≡ getD heads (at + 1) 0 → i ≡ getD heads at 0 → RowsDone words heads f n k m₀ kids out end m₀ i 0
+  rows-begun at last first = record {
+    last = last ∙ ap (λ x. getD heads (x + 1) 0) at;
+    low = omega (arith, ap (λ x. getD heads x 0) at);
+    high = omega (arith, ap (λ x. getD heads x 0) at, ap (λ x. getD heads (x + 1) 0) at, g .indexed .sorted .order f (g .symbol));
+    few = omega arith;
+    before = λ p lo hi. absurd (omega (arith, ap (λ x. getD heads x 0) at));
+    after = λ p lo hi. omega arith;
+    only = record { long = refl; same = λ i side. refl };
+    done = λ arities e l hl p h. absurd (omega arith);
+  }
+
+  -- The targets of the words of f whose arguments are in their blocks are reached, and no other class.
+  module _ (arities : List ℕ) (arity : getD arities f 0 ≡ n) (l : ℕ) where
+    abbrev sets : List Set
+    sets = take n (map (λ a. lane k m₀ a l) kids)
+
+    -- The place of a word of f.
+    place-of : (i : ℕ) → i < getD heads 64 0 → part (getD words i 0) 4 ≡ f → (getD heads f 0 ≤ i) × (i < getD heads (f + 1) 0)
+    place-of i h e = (
+      elim (decLt i (getD heads f 0)) [ yes l ↦ absurd (none-before words heads (g .indexed) f (g .symbol) i l e) | no nl ↦ omega arith ],
+      elim (decLt i (getD heads (f + 1) 0)) [ yes l ↦ l | no nl ↦ absurd (none-after words heads (g .indexed) f (g .symbol) i (omega arith) h e) ],
+    )
+
+    drawn-here : (m : List (List ℕ)) → Within k m₀ out m → (i : ℕ) → getD heads f 0 ≤ i → i < getD heads (f + 1) 0
+        → allLit m n (getD words i 0) kids l ≡ drawn sets (moveOf arities (getD words i 0) .arguments)
+    unfolding moveOf
+    drawn-here m only i lo hi =
+        let w = getD words i 0 in
+        let own = g .indexed .sorted .own f i (g .symbol) lo hi in
+        kids-drawn k m₀ out m only n w kids l (g .few) (λ j h. g .argument i j lo hi h) (g .kids-apart)
+        ∙ ap (λ x. drawn sets (take x (part w 0 ∷ (part w 1 ∷ (part w 2 ∷ []))))) (sym arity ∙ ap (λ x. getD arities x 0) (sym own))
+
+    reached-by : (q : ℕ) → reached words heads f n k m₀ kids arities l q ≡ true
+        → (i : ℕ) × (getD heads f 0 ≤ i) × (i < getD heads (f + 1) 0) × (part (getD words i 0) 3 ≡ q) × (drawn sets (moveOf arities (getD words i 0) .arguments) ≡ true)
+    unfolding gathered wovenMoves fires moveOf
+    reached-by q e =
+        let (tr, mem, fire) = any-sound (wovenMoves arities words (getD heads 64 0)) {test = fires f sets q} e in
+        let (i, listed, same) = Memᴰ·of-map (λ i. moveOf arities (getD words i 0)) (countFrom 0 (getD heads 64 0)) mem in
+        let (symbol, target, args) = match-iff (tr .symbol) f (tr .target) q (drawn sets (tr .arguments)) .0 fire in
+        let (lo, hi) = place-of i (omega (arith, mem-order 0 (getD heads 64 0) listed)) (ap (λ t. t .symbol) same ∙ symbol) in
+        (i, lo, hi, ap (λ t. t .target) same ∙ target, ap (λ t. drawn sets (t .arguments)) same ∙ args)
+
+    reaches : (q i : ℕ) → getD heads f 0 ≤ i → i < getD heads (f + 1) 0 → part (getD words i 0) 3 ≡ q → drawn sets (moveOf arities (getD words i 0) .arguments) ≡ true
+        → reached words heads f n k m₀ kids arities l q ≡ true
+    unfolding gathered wovenMoves fires moveOf
+    reaches q i lo hi target args =
+        let w = getD words i 0 in
+        any-complete (fires f sets q) (Memᴰ·map (λ i. moveOf arities (getD words i 0)) (order-mem 0 (getD heads 64 0) i (omega arith) (omega (arith, within words heads (g .indexed) f (g .symbol)))))
+        (match-iff (part w 4) f (part w 3) q (drawn sets (moveOf arities w .arguments)) .1 (g .indexed .sorted .own f i (g .symbol) lo hi, target, args))
+
+  module _ {end : ℕ} {m : List (List ℕ)} {i q : ℕ} (z : RowsDone words heads f n k m₀ kids out end m i q) where
+    pub rows-runnable : Runnable words end n i m kids
+    rows-runnable = record {
+      few = g .few;
+      room = omega (arith, z .last, within words heads (g .indexed) f (g .symbol), g .indexed .room);
+      begins = z .high;
+      rows = λ p j lo hi hj. omega (arith, g .argument p j (omega (arith, z .low)) (omega (arith, z .last)) hj, g .kids-room j hj, z .only .long);
+    }
+
+    module _ {lanes : List ℕ} {next : ℕ} (hq : q < k) (r : RunOf words end n q i m kids lanes next) where
+      -- The words behind the run have targets above q.
+      beyond : (p : ℕ) → next ≤ p → p < end → q + 1 ≤ part (getD words p 0) 3
+      beyond p lo hi =
+          let rise = g .indexed .sorted .rising f next p (g .symbol) (omega (arith, z .low, r .joined .low)) lo (omega (arith, z .last)) in
+          elim (ℕ-discrete (part (getD words next 0) 3) q) [
+            | yes e ↦ absurd (r .stops (omega arith) e)
+            | no ne ↦ elim (decLt q (part (getD words next 0) 3)) [ yes h ↦ omega arith | no nh ↦ absurd (ne (omega (arith, z .after next (r .joined .low) (omega arith)))) ]
+          ]
+
+      row-done : (arities : List ℕ) → getD arities f 0 ≡ n → (l : ℕ) → l < 512 → lit lanes l ≡ reached words heads f n k m₀ kids arities l q
+      row-done arities e l hl = r .joined .lanes-lit l hl ∙ same-test _ _
+          (λ h.
+          let (p, mem, all) = any-sound (countFrom i (next - i)) h in
+          let (lo, hi) = mem-order i (next - i) mem in
+          let low : getD heads f 0 ≤ p = omega (arith, z .low) in
+          let high : p < getD heads (f + 1) 0 = omega (arith, z .last, r .high, r .joined .low) in
+          reaches arities e l q p low high (r .joined .own p lo (omega (arith, r .joined .low))) (sym (drawn-here arities e l m (z .only) p low high) ∙ all))
+          (λ h.
+          let (p, lo, hi, target, args) = reached-by arities e l q h in
+          any-complete (λ p. allLit m n (getD words p 0) kids l) (order-mem i (next - i) p (from p lo target) (omega (arith, upto p lo hi target, r .joined .low)))
+          (drawn-here arities e l m (z .only) p lo hi ∙ args))
+        where
+          from : (p : ℕ) → getD heads f 0 ≤ p → part (getD words p 0) 3 ≡ q → i ≤ p
+          from p lo target = elim (decLt p i) [ yes h ↦ absurd (omega (arith, z .before p lo h)) | no nh ↦ omega arith ]
+
+          upto : (p : ℕ) → getD heads f 0 ≤ p → p < getD heads (f + 1) 0 → part (getD words p 0) 3 ≡ q → p < next
+          upto p lo hi target = elim (decLt p next) [ yes h ↦ h | no nh ↦ absurd (omega (arith, beyond p (omega arith) (omega (arith, z .last)))) ]
+
+      pub rows-more : RowsDone words heads f n k m₀ kids out end (set m (out + q) lanes) next (q + 1)
+      rows-more = record {
+        last = z .last;
+        low = omega (arith, z .low, r .joined .low);
+        high = r .high;
+        few = omega arith;
+        before = λ p lo hi. elim (decLt p i) [ yes h ↦ omega (arith, z .before p lo h) | no nh ↦ omega (arith, r .joined .own p (omega arith) hi) ];
+        after = beyond;
+        only = store-within k m₀ out q m lanes hq (z .only);
+        done = λ arities e l hl.
+            below-more (λ p. lit (getD (set m (out + q) lanes) (out + p) []) l ≡ reached words heads f n k m₀ kids arities l p) q
+            (λ p h. ap (λ row. lit row l) (getD-set-other m (out + q) (out + p) lanes [] (λ s. omega arith)) ∙ z .done arities e l hl p h)
+            (ap (λ row. lit row l) (getD-set-same m (out + q) lanes [] (omega (arith, g .out-room, z .only .long))) ∙ row-done arities e l hl);
+      }
+
+    pub rows-all : k ≤ q → (arities : List ℕ) → Gathered arities words heads f n k m₀ kids out m
+    rows-all h arities = record {
+      value = λ e l hl. fun-ext (λ p. elim (decLt p k) [
+        | yes lt ↦ ap (λ b. b && lit (getD m (out + p) []) l) (lt-ltb p k lt) ∙ z .done arities e l hl p (omega arith)
+        | no ge ↦
+            ap (λ b. b && lit (getD m (out + p) []) l) (le-ltb p k (omega arith))
+            ∙ same-test false _ (λ z. absurd (false≢true z))
+            (λ s. let (i, lo, hi, target, args) = reached-by arities e l p s in absurd (omega (arith, g .target i lo hi)))
+      ]);
+      within = z .only;
+    }

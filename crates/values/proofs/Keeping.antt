@@ -1,7 +1,7 @@
 -- What is kept: nothing at first, one more term after each that is valued, and all of it when the variable `near` gets another set.
 use mathlib.Core.Path.{_≡_, refl, sym, ap, _∙_, subst}
 use mathlib.Core.Logic.{_⊎_, inl, inr, ⊎-elim}
-use mathlib.Core.List.{List, [], _∷_, map}
+use mathlib.Core.List.{List, [], map}
 use Prim.Native.Nat.{ℕ, suc, _+_, _-_, _*_, _≤_, _<_}
 use native.Mathlib.Decide.{decLt, ℕ-discrete}
 use native.Mathlib.Omega.{arith}
@@ -13,7 +13,7 @@ use Rattle.theory.specs.Automaton.{Transition}
 use Rattle.tables.specs.Held.{tokenOf}
 use Rattle.values.specs.Sets.{spanned}
 use Rattle.values.specs.Lanes.{lane, blockOf, given}
-use Rattle.values.specs.Standing.{Each, EachRow, one, over, empty, _beside_, Without, Spells, SpellsRow, Stands, Kept, Noted, unchanged, noted, Valued}
+use Rattle.values.specs.Standing.{EachRow, one, over, empty, _beside_, Without, Spells, SpellsRow, Stands, Kept, Noted, unchanged, noted, Valued}
 use Rattle.values.proofs.Spanned.{spanned-same, each-then}
 use Rattle.values.proofs.Blocks.{Same, block-same, same-rows, given-same, block-symbol, block-variable, block-where}
 use Rattle.values.proofs.Standing.{some-token, behind, each-variable, spelled-inside, inside, within-room, variable-here, symbol-here, no-terms, first-here, valued-room}
@@ -34,7 +34,8 @@ module _ {arities tokens : List ℕ} {near : ℕ} where
   pub lacks-none : {at : ℕ} → LacksRow arities tokens near at 0
   lacks-none ts rest s = subst (EachRow (λ x. 64 + x ≡ near → ⊥)) (sym (no-terms arities tokens (s .ranked) refl)) empty
 
-  pub lacks-more : {Δ : List Transition} {k at n : ℕ} {m after : List (List ℕ)} {second : ℕ} → Valued Δ arities tokens k m at after second → Lacks arities tokens near at → LacksRow arities tokens near second n
+  pub lacks-more : {Δ : List Transition} {k at n : ℕ} {m after : List (List ℕ)} {second : ℕ} → Valued Δ arities tokens k m at after second
+      → Lacks arities tokens near at → LacksRow arities tokens near second n
       → LacksRow arities tokens near at (suc n)
   lacks-more {at = at} {n = n} v l ls ts rest s =
       let w = first-here arities tokens at n ts rest s in
@@ -91,7 +92,8 @@ valued-now {Δ = Δ} {arities = arities} {tokens = tokens} {k = k} {m₀ = m₀}
 
 module _ {Δ : List Transition} {arities tokens : List ℕ} {k near : ℕ} where
   -- A term that is kept is valued already.
-  pub kept-valued : {m : List (List ℕ)} {ends : List ℕ} {at end : ℕ} → Stands arities tokens at → Kept Δ arities tokens k near m ends → end ≡ getD ends at 0 → 0 < end → Valued Δ arities tokens k m at m end
+  pub kept-valued : {m : List (List ℕ)} {ends : List ℕ} {at end : ℕ} → Stands arities tokens at → Kept Δ arities tokens k near m ends → end ≡ getD ends at 0 → 0 < end
+      → Valued Δ arities tokens k m at m end
   kept-valued {ends = ends} {at = at} s old is some = record {
     value = λ t rest w. old .value at here entry t rest w;
     rest = λ t rest w. ap (λ n. map tokenOf (drop n tokens)) (is ∙ old .end at here entry t rest w) ∙ behind w;

@@ -1,7 +1,7 @@
 -- Rows: a loop that makes one word by word, rows joined lane by lane, and rows stored in a block.
 use mathlib.Core.Path.{_≡_, refl, sym, ap, ap₂, _∙_}
-use mathlib.Core.Bool.{Bool, true, false, _&&_, _||_, and-true}
-use mathlib.Core.Logic.{_⊎_, ⊎-elim}
+use mathlib.Core.Bool.{Bool, true, false, _&&_, _||_, and-true, and-self}
+use mathlib.Core.Logic.{⊎-elim}
 use mathlib.Core.List.{List, [], _∷_}
 use Prim.Native.Nat.{ℕ, _+_, _/_, _%_, _≤_, _<_}
 use native.Mathlib.Omega.{arith}
@@ -15,8 +15,8 @@ use Rattle.sets.specs.Sets.{Set, mem}
 use Rattle.sets.proofs.Laws.{mem-zero, mem-below, mem-or, mem-and}
 use Rattle.woven.specs.Woven.{part}
 use Rattle.values.specs.Sets.{drawn}
-use Rattle.values.specs.Lanes.{lit, lane}
-use Rattle.values.specs.Rows.{allLit, PutIn, Blank, Within}
+use Rattle.values.specs.Lanes.{lit}
+use Rattle.values.specs.Rows.{allLit, Within}
 
 -- A row r with f at each place below y.
 pub record Each (f : ℕ → ℕ) (r : List ℕ) (y : ℕ) : Type 0 where
@@ -36,35 +36,17 @@ one-more f r y hy all =
     }
 
 -- Each lane of a row that is made.
-pub made-lit : (f : ℕ → ℕ) (r : List ℕ) (y : ℕ) → 8 ≤ y → Each f r y → (l : ℕ) → l < 512 → lit r l ≡ mem (f (l / 64)) (l % 64)
+made-lit : (f : ℕ → ℕ) (r : List ℕ) (y : ℕ) → 8 ≤ y → Each f r y → (l : ℕ) → l < 512 → lit r l ≡ mem (f (l / 64)) (l % 64)
 made-lit f r y hy all l hl = ap (λ w. mem w (l % 64)) (all .done (l / 64) (omega arith))
-
--- One other is joined.
-module _ (s a : List ℕ) where
-  abbrev pub word1 : ℕ → ℕ
-  word1 y = bitOr (getD s y 0) (getD a y 0)
-
-  pub joined1 : (r : List ℕ) (y : ℕ) → 8 ≤ y → Each word1 r y → (l : ℕ) → l < 512 → lit r l ≡ (lit s l || lit a l)
-  joined1 r y hy all l hl = made-lit word1 r y hy all l hl ∙ mem-or (getD s (l / 64) 0) (getD a (l / 64) 0) (l % 64)
-
--- What two others have in common.
-module _ (s a b : List ℕ) where
-  abbrev pub word2 : ℕ → ℕ
-  word2 y = bitOr (getD s y 0) (bitAnd (getD a y 0) (getD b y 0))
-
-  pub joined2 : (r : List ℕ) (y : ℕ) → 8 ≤ y → Each word2 r y → (l : ℕ) → l < 512 → lit r l ≡ (lit s l || (lit a l && lit b l))
-  joined2 r y hy all l hl =
-      made-lit word2 r y hy all l hl ∙ mem-or (getD s (l / 64) 0) (bitAnd (getD a (l / 64) 0) (getD b (l / 64) 0)) (l % 64)
-      ∙ ap (_||_ (lit s l)) (mem-and (getD a (l / 64) 0) (getD b (l / 64) 0) (l % 64))
 
 -- What three others have in common.
 module _ (s a b c : List ℕ) where
-  abbrev pub word3 : ℕ → ℕ
-  word3 y = bitOr (getD s y 0) (bitAnd (getD a y 0) (bitAnd (getD b y 0) (getD c y 0)))
+  abbrev pub word : ℕ → ℕ
+  word y = bitOr (getD s y 0) (bitAnd (getD a y 0) (bitAnd (getD b y 0) (getD c y 0)))
 
-  pub joined3 : (r : List ℕ) (y : ℕ) → 8 ≤ y → Each word3 r y → (l : ℕ) → l < 512 → lit r l ≡ (lit s l || (lit a l && (lit b l && lit c l)))
-  joined3 r y hy all l hl = let p = l / 64 in
-      made-lit word3 r y hy all l hl ∙ mem-or (getD s p 0) (bitAnd (getD a p 0) (bitAnd (getD b p 0) (getD c p 0))) (l % 64)
+  pub joined : (r : List ℕ) (y : ℕ) → 8 ≤ y → Each word r y → (l : ℕ) → l < 512 → lit r l ≡ (lit s l || (lit a l && (lit b l && lit c l)))
+  joined r y hy all l hl = let p = l / 64 in
+      made-lit word r y hy all l hl ∙ mem-or (getD s p 0) (bitAnd (getD a p 0) (bitAnd (getD b p 0) (getD c p 0))) (l % 64)
       ∙ ap (_||_ (lit s l)) (mem-and (getD a p 0) (bitAnd (getD b p 0) (getD c p 0)) (l % 64) ∙ ap (_&&_ (lit a l)) (mem-and (getD b p 0) (getD c p 0) (l % 64)))
 
 -- A new row.
@@ -81,15 +63,7 @@ all-lit l hl =
     ∙ ap (λ (s : Set). s (l % 64)) (mem-below 64)
     ∙ lt-ltb (l % 64) 64 (omega arith)
 
--- A row is put.
-pub put-in : (m : List (List ℕ)) (i : ℕ) (s r : List ℕ) → i < length m → ((l : ℕ) → l < 512 → lit r l ≡ (lit (getD m i []) l || lit s l)) → PutIn m i s (set m i r)
-put-in m i s r h joined = record {
-  long = length-set m i r;
-  put = λ l hl. ap (λ r. lit r l) (getD-set-same m i r [] h) ∙ joined l hl;
-  same = λ j ne. getD-set-other m i j r [] ne;
-}
-
--- A row of a block is changed.
+-- A row of a block is changed, and nothing else.
 pub row-within : (k : ℕ) (m : List (List ℕ)) (a q : ℕ) (now after : List (List ℕ))
     → q < k → length after ≡ length now → ((j : ℕ) → (j ≡ a + q → ⊥) → getD after j [] ≡ getD now j []) → Within k m a now → Within k m a after
 row-within k m a q now after hq long same w = record {
@@ -100,14 +74,6 @@ row-within k m a q now after hq long same w = record {
 -- It is stored.
 pub store-within : (k : ℕ) (m : List (List ℕ)) (a q : ℕ) (now : List (List ℕ)) (r : List ℕ) → q < k → Within k m a now → Within k m a (set now (a + q) r)
 store-within k m a q now r hq = row-within k m a q now (set now (a + q) r) hq (length-set now (a + q) r) (λ j ne. getD-set-other now (a + q) j r [] ne)
-
--- The next row is emptied.
-pub blank-more : (m : List (List ℕ)) (a q : ℕ) (r : List ℕ) → a + q < length m → ((l : ℕ) → lit r l ≡ false) → Blank q m a → Blank (q + 1) (set m (a + q) r) a
-blank-more m a q r h none old p l hp hl =
-    below-more (λ p. lit (getD (set m (a + q) r) (a + p) []) l ≡ false) q
-    (λ p hp. ap (λ r. lit r l) (getD-set-other m (a + q) (a + p) r [] (λ e. omega arith)) ∙ old p l hp hl)
-    (ap (λ r. lit r l) (getD-set-same m (a + q) r [] h) ∙ none l)
-    p hp
 
 -- A list of three, by its elements.
 three : (xs : List ℕ) → length xs ≡ 3 → xs ≡ (getD xs 0 0 ∷ (getD xs 1 0 ∷ (getD xs 2 0 ∷ [])))
@@ -126,13 +92,18 @@ module _ (m : List (List ℕ)) (w : ℕ) (kids : List ℕ) (long : length kids �
   plain : (i : ℕ) → n ≡ i → allLit m n w kids l ≡ allLit m i w (getD kids 0 0 ∷ (getD kids 1 0 ∷ (getD kids 2 0 ∷ []))) l
   plain i e = ap₂ (λ n ks. allLit m n w ks l) e (three kids long)
 
-  pub one-lit : (x : ℕ) → n ≡ 1 → x ≡ part w 0 → argument 0 x ≡ allLit m n w kids l
+  pub no-lit : n ≡ 0 → true ≡ allLit m n w kids l
   unfolding allLit drawn
-  one-lit x e ex = ap (argument 0) ex ∙ sym (and-true (argument 0 (part w 0))) ∙ sym (plain 1 e)
+  no-lit e = sym (plain 0 e)
 
-  pub two-lit : (x y : ℕ) → n ≡ 2 → x ≡ part w 0 → y ≡ part w 1 → (argument 0 x && argument 1 y) ≡ allLit m n w kids l
+  -- With fewer arguments the last row is taken again.
+  pub one-lit : (x : ℕ) → n ≡ 1 → x ≡ part w 0 → (argument 0 x && (argument 0 x && argument 0 x)) ≡ allLit m n w kids l
   unfolding allLit drawn
-  two-lit x y e ex ey = ap₂ _&&_ (ap (argument 0) ex) (ap (argument 1) ey ∙ sym (and-true (argument 1 (part w 1)))) ∙ sym (plain 2 e)
+  one-lit x e ex = rw (and-self (argument 0 x), and-self (argument 0 x)) (ap (argument 0) ex ∙ sym (and-true (argument 0 (part w 0))) ∙ sym (plain 1 e))
+
+  pub two-lit : (x y : ℕ) → n ≡ 2 → x ≡ part w 0 → y ≡ part w 1 → (argument 0 x && (argument 1 y && argument 1 y)) ≡ allLit m n w kids l
+  unfolding allLit drawn
+  two-lit x y e ex ey = rw (and-self (argument 1 y)) (ap₂ _&&_ (ap (argument 0) ex) (ap (argument 1) ey ∙ sym (and-true (argument 1 (part w 1)))) ∙ sym (plain 2 e))
 
   pub three-lit : (x y z : ℕ) → n ≡ 3 → x ≡ part w 0 → y ≡ part w 1 → z ≡ part w 2 → (argument 0 x && (argument 1 y && argument 2 z)) ≡ allLit m n w kids l
   unfolding allLit drawn

@@ -5,7 +5,7 @@ use mathlib.Core.List.{List, [], _∷_}
 use Prim.Native.Nat.{ℕ}
 use lib.Dec.{eqb}
 use Rattle.theory.specs.Lists.{any}
-use Rattle.theory.specs.Term.{Term, Terms, var, node, none, _then_}
+use Rattle.theory.specs.Term.{Term, Terms}
 use Rattle.theory.specs.Automaton.{Automaton, Transition, Gives, GivesAll, assigned, applied, nothing, _next_}
 use Rattle.theory.specs.Value.{value, values}
 use Rattle.theory.proofs.Tests.{match-iff, any-complete}

@@ -18,7 +18,7 @@ use Rattle.tables.specs.Held.{tokenOf}
 use Rattle.woven.specs.Woven.{wovenMoves}
 use Rattle.values.specs.Sets.{gathered, spanned, spannedAll}
 use Rattle.values.specs.Lanes.{lane, blockOf, given}
-use Rattle.values.specs.Rows.{Within, Gathered}
+use Rattle.values.specs.Rows.{Gathered}
 use Rattle.values.specs.Standing.{Each, EachRow, one, over, _beside_, Spells, SpellsRow, Stands, Valued}
 use Rattle.values.proofs.Blocks.{Same, block-same, given-same, same-wider, same-within, same-then, block-symbol, block-variable, block-where}
 
@@ -204,7 +204,8 @@ module _ (arities tokens : List ℕ) where
       pub outside : Same k at next m after
 
 -- A variable's set is in its own block.
-pub variable-valued : {Δ : List Transition} {arities tokens : List ℕ} {k : ℕ} {m : List (List ℕ)} {at : ℕ} → Stands arities tokens at → 64 ≤ getD tokens at 0 → Valued Δ arities tokens k m at m (at + 1)
+pub variable-valued : {Δ : List Transition} {arities tokens : List ℕ} {k : ℕ} {m : List (List ℕ)} {at : ℕ} → Stands arities tokens at → 64 ≤ getD tokens at 0
+    → Valued Δ arities tokens k m at m (at + 1)
 unfolding spanned preorder given
 variable-valued {Δ = Δ} {arities = arities} {tokens = tokens} {k = k} {m = m} {at = at} s hv = record {
   value = λ t rest w l hl.
@@ -271,29 +272,28 @@ module _ {arities tokens : List ℕ} {Δ : List Transition} {k : ℕ} where
 abbrev pub moves : (arities words heads : List ℕ) → List Transition
 moves arities words heads = wovenMoves arities words (getD heads 64 0)
 
--- A symbol over a row that is valued: its block is cleared and its words are gathered into it.
-module _ {arities tokens words heads : List ℕ} {k : ℕ} {m : List (List ℕ)} {at n : ℕ} {bs kids : List ℕ} {mid clear after : List (List ℕ)} {next : ℕ} where
+-- A symbol over a row that is valued: its words are gathered into its block.
+module _ {arities tokens words heads : List ℕ} {k : ℕ} {m : List (List ℕ)} {at n : ℕ} {bs kids : List ℕ} {mid after : List (List ℕ)} {next : ℕ} where
   pub symbol-valued : Stands arities tokens at → getD tokens at 0 < 64 → getD arities (getD tokens at 0) 0 ≡ n → ((g : ℕ → Set) → take n (map g kids) ≡ map g bs)
-      → RowValued arities tokens (moves arities words heads) k m (at + 1) n bs mid next → Within k mid (at * k) clear → Gathered arities words heads (getD tokens at 0) n k clear kids (at * k) after
+      → RowValued arities tokens (moves arities words heads) k m (at + 1) n bs mid next → Gathered arities words heads (getD tokens at 0) n k mid kids (at * k) after
       → Valued (moves arities words heads) arities tokens k m at after next
   unfolding spanned preorder
-  symbol-valued s hs arity pick r w g = record {
+  symbol-valued s hs arity pick r g = record {
     value = λ t rest e l hl.
         let here = symbol-here arities tokens at (inside s) hs t rest e in
         ap (λ b. lane k after (b * k) l) (block-symbol tokens at hs)
         ∙ g .value arity l hl
         ∙ ap (gathered (moves arities words heads) (getD tokens at 0))
-        (pick (λ a. lane k clear a l)
-        ∙ r .values (here .row) rest (rw arity at (here .spells)) l hl clear (same-wider k at (at + 1) mid clear (same-within k at mid clear w) 0 (at + 1) (omega arith) (omega arith)))
+        (pick (λ a. lane k mid a l) ∙ r .values (here .row) rest (rw arity at (here .spells)) l hl mid (λ i w. refl))
         ∙ ap (spanned (moves arities words heads) (given k m l)) (sym (here .same));
     rest = λ t rest e. let here = symbol-here arities tokens at (inside s) hs t rest e in r .rest (here .row) rest (rw arity at (here .spells));
     end = λ t rest e.
         let here = symbol-here arities tokens at (inside s) hs t rest e in
         omega (arith, r .end (here .row) rest (rw arity at (here .spells)), ap (λ t. length (preorder t)) (here .same));
     forward = omega (arith, r .forward);
-    long = g .within .long ∙ w .long ∙ r .long;
+    long = g .within .long ∙ r .long;
     outside = same-then k at next m mid after (same-wider k (at + 1) next m mid (r .outside) at next (omega arith) (omega arith)) filled;
   }
     where
       filled : Same k at next mid after
-      filled = same-wider k at (at + 1) mid after (same-then k at (at + 1) mid clear after (same-within k at mid clear w) (same-within k at clear after (g .within))) at next (omega arith) (r .forward)
+      filled = same-wider k at (at + 1) mid after (same-within k at mid after (g .within)) at next (omega arith) (r .forward)

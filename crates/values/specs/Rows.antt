@@ -1,10 +1,11 @@
 -- Rows put together, and the words of a symbol gathered into a block.
 use mathlib.Core.Path.{_≡_}
-use mathlib.Core.Bool.{Bool, false, _||_}
+use mathlib.Core.Bool.{Bool}
 use mathlib.Core.Logic.{_⊎_}
 use mathlib.Core.List.{List, [], _∷_, map}
-use Prim.Native.Nat.{ℕ, _+_, _≤_, _<_}
+use Prim.Native.Nat.{ℕ, _+_, _-_, _≤_, _<_}
 use lib.ListN.{length, getD, take}
+use Rattle.theory.specs.Lists.{any, countFrom}
 use Rattle.woven.specs.Woven.{part, wovenMoves, Indexed}
 use Rattle.values.specs.Sets.{drawn, gathered}
 use Rattle.values.specs.Lanes.{lit, lane}
@@ -14,11 +15,24 @@ unfoldable pub allLit : List (List ℕ) → (n w : ℕ) → List ℕ → ℕ →
 allLit m n w kids l =
     drawn (take n (map (λ a q. lit (getD m (a + q) []) l) kids)) (take n (part w 0 ∷ (part w 1 ∷ (part w 2 ∷ []))))
 
--- The lanes of s are put into row i.
-pub record PutIn (m : List (List ℕ)) (i : ℕ) (s : List ℕ) (after : List (List ℕ)) : Type 0 where
-  pub long : length after ≡ length m
-  pub put : (l : ℕ) → l < 512 → lit (getD after i []) l ≡ (lit (getD m i []) l || lit s l)
-  pub same : (j : ℕ) → (j ≡ i → ⊥) → getD after j [] ≡ getD m j []
+-- What a run relies on: the words up to `end` are listed, and the rows of the first n arguments of those from place `from` on are within the list.
+pub record Runnable (words : List ℕ) (end n from : ℕ) (m : List (List ℕ)) (kids : List ℕ) : Type 0 where
+  pub few : n ≤ 3
+  pub room : end ≤ 128
+  pub begins : from ≤ end
+  pub rows : (i j : ℕ) → from ≤ i → i < end → j < n → getD kids j 0 + part (getD words i 0) j < length m
+
+-- The words from place `from` to `next` have the target q, and a lane is lit where some of them has each of its first n arguments in its block.
+pub record Joined (words : List ℕ) (n q from : ℕ) (m : List (List ℕ)) (kids lanes : List ℕ) (next : ℕ) : Type 0 where
+  pub low : from ≤ next
+  pub own : (i : ℕ) → from ≤ i → i < next → part (getD words i 0) 3 ≡ q
+  pub lanes-lit : (l : ℕ) → l < 512 → lit lanes l ≡ any (countFrom from (next - from)) (λ i. allLit m n (getD words i 0) kids l)
+
+-- These are all words of that target at the front of those from `from` to `end`.
+pub record RunOf (words : List ℕ) (end n q from : ℕ) (m : List (List ℕ)) (kids lanes : List ℕ) (next : ℕ) : Type 0 where
+  pub joined : Joined words n q from m kids lanes next
+  pub high : next ≤ end
+  pub stops : next < end → part (getD words next 0) 3 ≡ q → ⊥
 
 -- The block at row a is within the list.
 abbrev pub Room : ℕ → List (List ℕ) → ℕ → Type 0
@@ -28,27 +42,21 @@ Room k m a = a + k ≤ length m
 abbrev pub Apart : (k a b : ℕ) → Type 0
 Apart k a b = (p q : ℕ) → p < k → q < k → a + p ≡ b + q → ⊥
 
--- No lane of the block at row a is lit.
-abbrev pub Blank : ℕ → List (List ℕ) → ℕ → Type 0
-Blank k m a = (q l : ℕ) → q < k → l < 512 → lit (getD m (a + q) []) l ≡ false
-
 -- Only rows of the block at row a are changed.
 pub record Within (k : ℕ) (m : List (List ℕ)) (a : ℕ) (after : List (List ℕ)) : Type 0 where
   pub long : length after ≡ length m
   pub same : (i : ℕ) → (i < a) ⊎ (a + k ≤ i) → getD after i [] ≡ getD m i []
 
--- What gathering relies on: the first n of the arguments' blocks are within the list and apart from the one that is filled, which is empty.
+-- What gathering relies on: the first n of the arguments' blocks are within the list and apart from the one that is filled.
 pub record Gatherable (words heads : List ℕ) (f n k : ℕ) (m : List (List ℕ)) (kids : List ℕ) (out : ℕ) : Type 0 where
   pub indexed : Indexed words heads
   pub symbol : f < 64
-  pub some : 1 ≤ k
   pub few : n ≤ 3
   pub target : (i : ℕ) → getD heads f 0 ≤ i → i < getD heads (f + 1) 0 → part (getD words i 0) 3 < k
   pub argument : (i j : ℕ) → getD heads f 0 ≤ i → i < getD heads (f + 1) 0 → j < n → part (getD words i 0) j < k
   pub kids-room : (j : ℕ) → j < n → Room k m (getD kids j 0)
   pub kids-apart : (j : ℕ) → j < n → Apart k (getD kids j 0) out
   pub out-room : Room k m out
-  pub out-blank : Blank k m out
 
 -- The block at `out` has in each lane every class that a word of f gives for arguments from the first n blocks.
 pub record Gathered (arities words heads : List ℕ) (f n k : ℕ) (m : List (List ℕ)) (kids : List ℕ) (out : ℕ) (after : List (List ℕ)) : Type 0 where

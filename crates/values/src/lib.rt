@@ -1,12 +1,12 @@
 // The value of a term in 512 lanes at once, in blocks of rows: see specs/Lanes.
 ghost use mathlib.Core.Path.{_≡_};
 ghost use mathlib.Core.Bool.{_||_, _&&_};
-ghost use mathlib.Core.List.{List, []};
-ghost use Prim.Native.Nat.{ℕ, _+_, _*_, _≤_, _<_};
+ghost use mathlib.Core.List.{List};
+ghost use Prim.Native.Nat.{ℕ, _+_, _≤_, _<_};
 ghost use lib.ListN.{length, getD};
 ghost use Rattle.woven.specs.Woven.{part, wovenMoves};
-ghost use Rattle.values.specs.Lanes.{lit, lane, blockOf};
-ghost use Rattle.values.specs.Rows.{allLit, PutIn, Room, Blank, Within, Gatherable, Gathered};
+ghost use Rattle.values.specs.Lanes.{lit, blockOf};
+ghost use Rattle.values.specs.Rows.{allLit, Runnable, RunOf, Gatherable, Gathered};
 ghost use Rattle.values.specs.Standing.{Kept, Keepable, Noted, Valuable, Valued};
 
 // The variables' blocks come behind those of the 48 tokens.
@@ -15,14 +15,14 @@ pub const VARIABLES: usize = 48;
 const ALL: u64 = 18446744073709551615;
 
 // A byte as a place.
-fn place(x: u8) -> usize
+pub fn place(x: u8) -> usize
     ensures { λ r. ⌜ r ≡ x ⌝ }
 {
     x as usize
 }
 
 // The arity of the symbol f, and 0 where it is not listed.
-fn arity(arities: &[u8], f: u8) -> u8
+pub fn arity(arities: &[u8], f: u8) -> u8
     ensures { λ r. ⌜ r ≡ getD (now (arities .entry)) f 0 ⌝ }
 {
     let i = place(f);
@@ -39,40 +39,15 @@ pub fn block_of(tokens: &[u8], at: usize) -> usize
 }
 
 // The number in byte i of a word.
-fn part_of(w: u64, i: u64) -> usize
+pub fn part_of(w: u64, i: u64) -> usize
     requires { ⌜ i < 5 ⌝ }
     ensures { λ r. ⌜ (r ≡ part w i) × (r < 64) ⌝ }
 {
     ((w >> (8 * i)) % 64) as usize
 }
 
-// The row s with the lanes of one other, or with those that two or three others have in common.
-// Each loop has a fixed count, so that it becomes a few vector operations.
-fn join1(s: [u64; 8], a: [u64; 8]) -> [u64; 8]
-    ensures { λ r. ⌜ ((l : ℕ) → l < 512 → lit r l ≡ (lit s l || lit a l)) ⌝ }
-{
-    let mut r = [0u64; 8];
-    let mut y = 0;
-    while y < 8 {
-        r[y] = s[y] | a[y];
-        y += 1;
-    }
-    r
-}
-
-fn join2(s: [u64; 8], a: [u64; 8], b: [u64; 8]) -> [u64; 8]
-    ensures { λ r. ⌜ ((l : ℕ) → l < 512 → lit r l ≡ (lit s l || (lit a l && lit b l))) ⌝ }
-{
-    let mut r = [0u64; 8];
-    let mut y = 0;
-    while y < 8 {
-        r[y] = s[y] | a[y] & b[y];
-        y += 1;
-    }
-    r
-}
-
-fn join3(s: [u64; 8], a: [u64; 8], b: [u64; 8], c: [u64; 8]) -> [u64; 8]
+// The row s with the lanes that three others have in common. The loop has a fixed count, so that it becomes a few vector operations.
+fn join(s: [u64; 8], a: [u64; 8], b: [u64; 8], c: [u64; 8]) -> [u64; 8]
     ensures { λ r. ⌜ ((l : ℕ) → l < 512 → lit r l ≡ (lit s l || (lit a l && (lit b l && lit c l)))) ⌝ }
 {
     let mut r = [0u64; 8];
@@ -85,51 +60,62 @@ fn join3(s: [u64; 8], a: [u64; 8], b: [u64; 8], c: [u64; 8]) -> [u64; 8]
 }
 
 // The row s with the lanes in which the first n arguments of the word w are in the blocks of `kids`.
+// Where there are fewer than three, the last row is joined again.
 fn gain(n: u8, w: u64, s: [u64; 8], m: &[[u64; 8]], kids: [usize; 3]) -> [u64; 8]
-    requires { ⌜ (1 ≤ n) × (n ≤ 3) × ((j : ℕ) → j < n → getD kids j 0 + part w j < length (now m)) ⌝ }
+    requires { ⌜ (n ≤ 3) × ((j : ℕ) → j < n → getD kids j 0 + part w j < length (now m)) ⌝ }
     ensures { λ r. ⌜ ((l : ℕ) → l < 512 → lit r l ≡ (lit s l || allLit (now (m .entry)) n w kids l)) ⌝ }
 {
+    if n == 0 {
+        return [ALL; 8];
+    }
     let a = kids[0] + part_of(w, 0);
     if n == 1 {
-        return join1(s, m[a]);
+        return join(s, m[a], m[a], m[a]);
     }
     let b = kids[1] + part_of(w, 1);
     if n == 2 {
-        return join2(s, m[a], m[b]);
+        return join(s, m[a], m[b], m[b]);
     }
     let c = kids[2] + part_of(w, 2);
-    join3(s, m[a], m[b], m[c])
+    join(s, m[a], m[b], m[c])
 }
 
-// The lanes of s put into row i.
-fn put(m: &mut [[u64; 8]], i: usize, s: [u64; 8])
-    requires { ⌜ i < length (now m) ⌝ }
-    ensures { λ r. ⌜ PutIn (now (m .entry)) i s (now (m .exit)) ⌝ }
+// The lanes in which a target is reached by one of its words, and the place after those words.
+struct Reached {
+    lanes: [u64; 8],
+    next: usize,
+}
+
+// The lanes in which a word of target q has its first n arguments in the blocks of `kids`:
+// of the words from place `from` on, up to `end` or to the first of another target.
+fn run<'a>(
+    words: &'a [u64; 128],
+    end: usize,
+    n: u8,
+    q: usize,
+    from: usize,
+    m: &[[u64; 8]],
+    kids: [usize; 3],
+) -> Reached
+    requires { ⌜ Runnable (now words) end n from (now m) kids ⌝ }
+    ensures { λ r. ⌜ RunOf (now (words .entry)) end n q from (now (m .entry)) kids (r .lanes) (r .next) ⌝ }
 {
-    let old = m[i];
-    let mut r = [0u64; 8];
-    let mut y = 0;
-    while y < 8 {
-        r[y] = old[y] | s[y];
-        y += 1;
+    let mut lanes = [0u64; 8];
+    let mut i = from;
+    while i < end {
+        let w = words[i];
+        if part_of(w, 3) != q {
+            break;
+        }
+        let more = gain(n, w, lanes, m, kids);
+        lanes = more;
+        i += 1;
     }
-    m[i] = r;
+    Reached { lanes, next: i }
 }
 
-// The rows of the block at row a are emptied.
-fn clear(m: &mut [[u64; 8]], k: usize, a: usize)
-    requires { ⌜ Room k (now m) a ⌝ }
-    ensures { λ r. ⌜ Blank k (now (m .exit)) a × Within k (now (m .entry)) a (now (m .exit)) ⌝ }
-{
-    let mut q = 0;
-    while q < k {
-        m[a + q] = [0u64; 8];
-        q += 1;
-    }
-}
-
-// In each lane, every class that some word of f gives for arguments from the first n of the blocks `kids`, into the empty block at row `out`.
-// The lanes of words with one target that follow each other are joined before they are put in, so that no word waits for the store of the one before it.
+// In each lane, every class that some word of f gives for arguments from the first n of the blocks `kids`, into the block at row `out`.
+// The words of f stand by rising target, so that each row is written once.
 fn gather<'a>(
     words: &'a [u64; 128],
     heads: &'a [u8; 65],
@@ -141,47 +127,18 @@ fn gather<'a>(
     out: usize,
 )
     requires { ⌜ Gatherable (now words) (now heads) f n k (now m) kids out ⌝ }
-    requires { ⌜ 1 ≤ n ⌝ }
     ensures { λ r. ⌜ ((arities : List ℕ) → Gathered arities (now (words .entry)) (now (heads .entry)) f n k (now (m .entry)) kids out (now (m .exit))) ⌝ }
 {
     let at = place(f);
     let end = place(heads[at + 1]);
     let mut i = place(heads[at]);
-    let mut target: usize = 0;
-    let mut lanes = [0u64; 8];
-    while i < end {
-        let w = words[i];
-        let next = part_of(w, 3);
-        if next != target {
-            put(m, out + target, lanes);
-            lanes = [0u64; 8];
-            target = next;
-        }
-        let more = gain(n, w, lanes, m, kids);
-        lanes = more;
-        i += 1;
-    }
-    put(m, out + target, lanes);
-}
-
-// In every lane, every class that some word of f without arguments gives, into the empty block at row `out`.
-fn gather_leaf<'a>(
-    words: &'a [u64; 128],
-    heads: &'a [u8; 65],
-    f: u8,
-    k: usize,
-    m: &mut [[u64; 8]],
-    out: usize,
-)
-    requires { ⌜ Gatherable (now words) (now heads) f 0 k (now m) [] out ⌝ }
-    ensures { λ r. ⌜ ((arities : List ℕ) → Gathered arities (now (words .entry)) (now (heads .entry)) f 0 k (now (m .entry)) [] out (now (m .exit))) ⌝ }
-{
-    let at = place(f);
-    let end = place(heads[at + 1]);
-    let mut i = place(heads[at]);
-    while i < end {
-        m[out + part_of(words[i], 3)] = [ALL; 8];
-        i += 1;
+    let mut q = 0;
+    while q < k {
+        let r = run(words, end, n, q, i, m, kids);
+        let lanes = r.lanes;
+        m[out + q] = lanes;
+        i = r.next;
+        q += 1;
     }
 }
 
@@ -233,15 +190,13 @@ pub fn value<'a>(
     let out = at * k;
     let n = arity(arities, f);
     if n == 0 {
-        clear(m, k, out);
-        gather_leaf(words, heads, f, k, m, out);
+        gather(words, heads, f, 0, k, m, [out, out, out], out);
         ends[at] = here as u8;
         return here;
     }
     let a = block_of(tokens, here) * k;
     let second = value(words, heads, arities, tokens, near, k, here, ends, m);
     if n == 1 {
-        clear(m, k, out);
         gather(words, heads, f, 1, k, m, [a, a, a], out);
         keep(ends, at, here, here, here, second);
         return second;
@@ -249,14 +204,12 @@ pub fn value<'a>(
     let b = block_of(tokens, second) * k;
     let third = value(words, heads, arities, tokens, near, k, second, ends, m);
     if n == 2 {
-        clear(m, k, out);
         gather(words, heads, f, 2, k, m, [a, b, b], out);
         keep(ends, at, here, second, second, third);
         return third;
     }
     let c = block_of(tokens, third) * k;
     let after = value(words, heads, arities, tokens, near, k, third, ends, m);
-    clear(m, k, out);
     gather(words, heads, f, 3, k, m, [a, b, c], out);
     keep(ends, at, here, second, third, after);
     after

@@ -1,4 +1,5 @@
 pub mod Parts
-pub mod Laying
+pub mod Inserting
+pub mod Heading
 pub mod Indexing
 pub mod Members

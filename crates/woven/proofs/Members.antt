@@ -1,6 +1,6 @@
 -- A term's value, and so the whole search, goes by which transitions there are: neither their order nor a repetition counts, nor which states are final.
-use mathlib.Core.Path.{_≡_, refl, sym, fun-ext}
-use mathlib.Core.Bool.{Bool, true, false, _&&_, not}
+use mathlib.Core.Path.{_≡_, refl, fun-ext}
+use mathlib.Core.Bool.{_&&_, not}
 use mathlib.Core.List.{List, [], _∷_}
 use mathlib.Core.Option.{none, some}
 use Prim.Native.Nat.{ℕ, zero, suc}
@@ -11,14 +11,9 @@ use Rattle.theory.specs.Value.{value, isCritical}
 use Rattle.theory.specs.Critical.{entry}
 use Rattle.theory.proofs.Grow.{Contained, gives-more}
 use Rattle.theory.proofs.Value.{value-exact}
+use Rattle.theory.proofs.Bools.{same-test}
 use Rattle.paper.specs.Meaning.{Closure}
 use Rattle.paper.specs.Computed.{Case, smallest, criticalClass, examine}
-
-same-test : (a b : Bool) → (a ≡ true → b ≡ true) → (b ≡ true → a ≡ true) → a ≡ b
-same-test true true h g = refl
-same-test true false h g = sym (h refl)
-same-test false true h g = g refl
-same-test false false h g = refl
 
 module _ (A B : Automaton) (there : Contained A B) (back : Contained B A) where
   pub value-same : {X : Type 0} (σ : X → ℕ) (t : Term X) → value A σ t ≡ value B σ t

@@ -1,1 +1,2 @@
 pub mod Woven
+pub mod Order

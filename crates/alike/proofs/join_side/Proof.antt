@@ -6,23 +6,26 @@ use Rattle.alike.proofs.join_side.Statement.{statement}
 use Rattle.alike.proofs.join_side.Tie as tie
 
 shared-slice-read-token : tie.Need-shared-slice-read-token
-shared-slice-read-token c = let start = c .before .before .before .before in written-inside (start .args .arities .now) (start .args .tokens .now) (start .args .at) (start .pre .0 .term)
+shared-slice-read-token c = let start = c .before .before .before in written-inside (start .args .arities .now) (start .args .tokens .now) (start .args .at) (start .pre .0 .term)
 
 rank-of-requires : tie.Need-rank-of-requires
 rank-of-requires c κs = search needs
 
 add-join-row : tie.Need-add-join-row
-add-join-row c = let start = c .before .before .before .before .before in omega (arith, start .good, written-inside (start .args .arities .now) (start .args .tokens .now) (start .args .at) (start .pre .0 .term))
+add-join-row c =
+    let start = c .before .before .before .before in
+    omega (arith, start .good, written-inside (start .args .arities .now) (start .args .tokens .now) (start .args .at) (start .pre .0 .term))
 
 join-row-requires : tie.Need-join-row-requires
 join-row-requires c κs =
-    let start = c .before .before .before .before .before .before in
+    let start = c .before .before .before .before .before in
     let a = start .args in
-    (inner-given (a .arities .now) (a .tokens .now) (a .groups .now) (a .x) (a .at) _ (start .pre .0) (c .before .rank-of .ensures), start .pre .1)
+    (rw (c .before .rank-of .ensures) (inner-given (a .arities .now) (a .tokens .now) (a .words .now) (a .heads .now) (a .x) (a .at) 18446744073709551615 (start .pre .0)), start .pre .1)
 
 returns : tie.Need-returns
-returns c =
-    let a = c .before .before .before .before .before .before .before .args in side-done (a .arities .now) (a .tokens .now) (a .groups .now) (a .x) (a .at) (a .same .now) _ (c .join-row .result) (rw (c .before .before .rank-of .ensures) at (c .join-row .ensures))
+returns c = let a = c .before .before .before .before .before .before .args in
+    side-done (a .arities .now) (a .tokens .now) (a .words .now) (a .heads .now) (a .x) (a .at) (a .same .now) _ (c .join-row .result)
+    (rw (c .before .before .rank-of .ensures) at (c .join-row .ensures))
 
 pub join-side-spec : {M : Type 1} → statement M
 join-side-spec =

@@ -1,9 +1,9 @@
 -- `alike::leaders` meets its contract. The invariant: each class before d that is not in the mask has a smaller one in its own. Assumes nothing.
-use mathlib.Core.Path.{sym, ap, _∙_, subst}
+use mathlib.Core.Path.{ap, _∙_, subst}
 use mathlib.Core.Logic.{⊎-elim}
-use Prim.Native.Nat.{_+_, _-_, _≤_}
+use Prim.Native.Nat.{_-_, _^_, _≤_, _<_}
 use native.Mathlib.Omega.{arith}
-use lib.Bits.{and-le-r}
+use lib.Bits.{bitAnd, and-le-r}
 use lib.ListN.{getD}
 use Rattle.sets.specs.Sets.{mem}
 use Rattle.alike.specs.Needed.{Lowest}
@@ -46,7 +46,9 @@ loop-again c =
       omega (arith, c .before .before .before .loop-test .taken),
       ⊎-elim
           (λ w. lowest-in (a .same .now) (at .d) (at .mask) (at .inv .1) (c .if1 .mask) (ap mem (w .2) ∙ w .1 .ensures .0))
-          (λ w. subst (Lowest (a .same .now) (at .d + 1)) (sym (w .1)) (lowest-out (a .same .now) (at .d) (at .mask) (at .inv .1) (low .result) (low .ensures) (omega (arith, low .ok, and-le-r (getD (a .same .now) (at .d) 0) (low .result))) (w .0 .left)))
+          (λ w.
+          let fits : bitAnd (getD (a .same .now) (at .d) 0) (low .result) < 2 ^ 64 = omega (arith, low .ok, and-le-r (getD (a .same .now) (at .d) 0) (low .result)) in
+          rw (w .1) (lowest-out (a .same .now) (at .d) (at .mask) (at .inv .1) (low .result) (low .ensures) fits (w .0 .left)))
           (c .if1 .came),
     )
 

@@ -1,41 +1,36 @@
--- `alike::narrow_all` meets its contract. The invariant: the words before d are narrowed. Assumes nothing.
-use mathlib.Core.Path.{refl, subst}
-use Prim.Native.Nat.{_+_, _-_, _≤_}
-use Rattle.alike.specs.Groups.{NarrowedTo}
-use Rattle.alike.proofs.Groups.{changed-none, changed-more}
+-- `alike::narrow_all` meets its contract. The invariant: the masks before d are narrowed. Assumes nothing.
+use mathlib.Core.Path.{subst}
+use Prim.Native.Nat.{_-_, _≤_, _<_}
+use lib.ListN.{length}
+use Rattle.alike.specs.Words.{NarrowedTo}
+use Rattle.alike.proofs.Steps.{narrowed-none, narrowed-more}
 use native.Mathlib.Omega.{arith}
 use Rattle.alike.proofs.narrow_all.Statement.{statement}
 use Rattle.alike.proofs.narrow_all.Tie as tie
 
 abbrev Inv-loop : tie.InvT-loop
-Inv-loop groups₀ from set d₀ groups d = (d ≤ 64) × NarrowedTo set groups₀ from d groups
+Inv-loop same₀ set d₀ same d = (d ≤ 64) × NarrowedTo set same₀ d same
 
 abbrev μ-loop : tie.MeasureT-loop
-μ-loop groups₀ from set d₀ groups d = 64 - d
+μ-loop same₀ set d₀ same d = 64 - d
 
 loop-holds : tie.Need-loop-holds Inv-loop μ-loop
-loop-holds c = (omega arith, changed-none _ (c .before .args .groups .now) (c .before .args .from))
-
-add-narrow : tie.Need-add-narrow Inv-loop μ-loop
-add-narrow c = omega (arith, c .loop-test .taken, c .before .before .before .pre, c .before .before .before .good)
+loop-holds c = (omega arith, narrowed-none (c .args .set) (c .args .same .now))
 
 mul-narrow : tie.Need-mul-narrow Inv-loop μ-loop
-mul-narrow c = omega (arith, c .loop-test .taken, c .before .before .before .pre, c .before .before .before .good)
+mul-narrow c = omega (arith, c .loop-test .taken)
 
-slice-read-narrow : tie.Need-slice-read-narrow Inv-loop μ-loop
-slice-read-narrow c = omega (arith, c .before .loop-test .taken, c .before .before .loop .inv .1 .long, c .before .before .before .before .pre)
+element-copy-out-narrow : tie.Need-element-copy-out-narrow Inv-loop μ-loop
+element-copy-out-narrow c = c .loop-test .taken
 
 narrow-requires : tie.Need-narrow-requires Inv-loop μ-loop
 narrow-requires c κs = omega (arith, c .before .loop-test .taken)
 
-add-groups : tie.Need-add-groups Inv-loop μ-loop
-add-groups c = omega (arith, c .before .before .loop-test .taken, c .before .before .before .before .before .pre, c .before .before .before .before .before .good)
+mul-same : tie.Need-mul-same Inv-loop μ-loop
+mul-same c = omega (arith, c .before .before .loop-test .taken)
 
-mul-groups : tie.Need-mul-groups Inv-loop μ-loop
-mul-groups c = omega (arith, c .before .before .loop-test .taken, c .before .before .before .before .before .pre, c .before .before .before .before .before .good)
-
-slice-write-groups : tie.Need-slice-write-groups Inv-loop μ-loop
-slice-write-groups c = omega (arith, c .before .before .loop-test .taken, c .before .before .before .loop .inv .1 .long, c .before .before .before .before .before .pre)
+element-write-same : tie.Need-element-write-same Inv-loop μ-loop
+element-write-same c = omega (arith, c .before .before .loop-test .taken, c .before .before .before .loop .inv .1 .long, c .before .before .before .before .pre)
 
 add-d : tie.Need-add-d Inv-loop μ-loop
 add-d c = omega (arith, c .before .before .loop-test .taken)
@@ -44,17 +39,14 @@ loop-less : tie.Need-loop-less Inv-loop μ-loop
 loop-less c = omega (arith, c .before .before .loop-test .taken)
 
 loop-again : tie.Need-loop-again Inv-loop μ-loop
-loop-again c =
-    let a = c .before .before .before .before .before .args in
+loop-again c = let a = c .before .before .before .before .args in
     let at = c .before .before .before .loop in
-    (omega (arith, c .before .before .loop-test .taken), changed-more _ (a .groups .now) (a .from) (at .d) (a .from + at .d) (at .groups) (c .narrow .result) refl (at .inv .1) (omega (arith, c .before .before .loop-test .taken, c .before .before .before .before .before .pre)) (c .narrow .ensures))
-
-same-length : tie.Need-same-length Inv-loop μ-loop
-same-length c = c .before .loop .inv .1 .long
+    let room : at .d < length (a .same .now) = omega (arith, c .before .before .loop-test .taken, c .before .before .before .before .pre) in
+    (omega (arith, c .before .before .loop-test .taken), narrowed-more (a .set) (a .same .now) (at .d) (at .same) (c .narrow .result) (at .inv .1) room (c .narrow .ensures))
 
 returns : tie.Need-returns Inv-loop μ-loop
-returns c =
-    let a = c .before .before .before .args in subst (λ n. NarrowedTo (a .set) (a .groups .now) (a .from) n (c .before .loop .groups)) (omega (arith, c .loop-test .left, c .before .loop .inv .0)) (c .before .loop .inv .1)
+returns c = let a = c .before .before .args in
+    subst (λ n. NarrowedTo (a .set) (a .same .now) n (c .before .loop .same)) (omega (arith, c .loop-test .left, c .before .loop .inv .0)) (c .before .loop .inv .1)
 
 pub narrow-all-spec : {M : Type 1} → statement M
 narrow-all-spec =
@@ -63,15 +55,12 @@ narrow-all-spec =
     Inv-loop
     μ-loop
     loop-holds
-    add-narrow
     mul-narrow
-    slice-read-narrow
+    element-copy-out-narrow
     narrow-requires
-    add-groups
-    mul-groups
-    slice-write-groups
+    mul-same
+    element-write-same
     add-d
     loop-less
     loop-again
-    same-length
     returns)

@@ -4,14 +4,11 @@ use borrow.Author.Needs.{needs}
 use Rattle.alike.proofs.needed.Statement.{statement}
 use Rattle.alike.proofs.needed.Tie as tie
 
-returns : tie.Need-returns
-returns c = let a = c .before .before .before .before .args in all-enough (a .groups .now) (a .arities .now) (a .tokens .now) (a .x)
-
 shared-slice-read-head : tie.Need-shared-slice-read-head
 shared-slice-read-head c = search needs
 
-returns-2 : tie.Need-returns-2
-returns-2 c = let a = c .before .before .before .before .before .before .args in all-enough (a .groups .now) (a .arities .now) (a .tokens .now) (a .x)
+returns : tie.Need-returns
+returns c = let a = c .before .before .before .before .args in all-enough (a .words .now) (a .heads .now) (a .arities .now) (a .tokens .now) (a .x)
 
 join-side-requires : tie.Need-join-side-requires
 join-side-requires c κs = search needs
@@ -22,19 +19,18 @@ join-side-requires-2 c κs = search needs
 leaders-requires : tie.Need-leaders-requires
 leaders-requires c κs = search needs
 
-returns-3 : tie.Need-returns-3
-returns-3 c =
-    let a = c .before .before .before .before .before .before .before .before .before .before .before .before .args in
-    lowest-enough (a .groups .now) (a .arities .now) (a .tokens .now) (a .x) _ _ _ (c .leaders .result) (c .before .before .before .before .before .before .before .before .if1 .left) (c .before .before .before .before .before .before .if2 .left) (c .before .before .before .before .join-side .ensures) (c .before .before .join-side2 .ensures) (c .leaders .ensures)
+returns-2 : tie.Need-returns-2
+returns-2 c = let a = c .before .before .before .before .before .before .before .before .before .before .args in
+    lowest-enough (a .words .now) (a .heads .now) (a .arities .now) (a .tokens .now) (a .x) _ _ _ (c .leaders .result)
+    (c .before .before .before .before .before .before .if1 .left) (c .before .before .before .before .join-side .ensures) (c .before .before .join-side2 .ensures) (c .leaders .ensures)
 
 pub needed-spec : {M : Type 1} → statement M
 needed-spec =
     tie.close
     (tie.spec
-    returns
     shared-slice-read-head
-    returns-2
+    returns
     join-side-requires
     join-side-requires-2
     leaders-requires
-    returns-3)
+    returns-2)

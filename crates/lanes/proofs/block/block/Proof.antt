@@ -3,12 +3,9 @@ use mathlib.Core.Path.{sym, _∙_, subst}
 use mathlib.Core.Logic.{⊎-elim}
 use Prim.Native.Nat.{_-_}
 use native.Mathlib.Omega.{arith}
-use lib.ListN.{getD}
 use borrow.Author.Needs.{needs}
-use Rattle.theory.proofs.Bools.{zero-at}
-use Rattle.woven.specs.Woven.{wovenMoves}
-use Rattle.values.proofs.Keeping.{kept-none}
-use Rattle.lanes.proofs.Blocks.{Placed, front-long, front-low, start-low, placed-one, placed-more, block-compared}
+use Rattle.lanes.proofs.Blocks.{Placed, front-long, front, start-low, placed-one, placed-more, block-compared}
+use Rattle.lanes.proofs.Judging.{none-kept}
 use Rattle.lanes.proofs.Stays.{judgeable-stays}
 use Rattle.lanes.proofs.block.block.Statement.{statement}
 use Rattle.lanes.proofs.block.block.Tie as tie
@@ -26,14 +23,13 @@ pair-up-requires c κs =
 slice-aggregate-fix-all : tie.Need-slice-aggregate-fix-all
 slice-aggregate-fix-all c =
     let start = c .before .before .before .before .before .before in
-    omega (arith, front-long (start .args .v) (start .args .xs .now) (start .pre .1) (start .pre .2))
+    omega (arith, front-long (start .pre .1))
 
 fix-all-requires : tie.Need-fix-all-requires
 fix-all-requires c κs =
     let start = c .before .before .before .before .before .before in
-    let p = start .pre in
-    let a = start .args in
-    (p .0 .room, omega (arith, p .1, front-long (a .v) (a .xs .now) (p .1) (p .2)), front-low (a .k) (a .v) (a .xs .now) (p .1) (p .2) (p .3), p .0 .ready .most)
+    let (j, before) = start .pre in
+    (j .room, front before, j .ready .most)
 
 sub-pair-up : tie.Need-sub-pair-up
 sub-pair-up c = search needs
@@ -44,12 +40,12 @@ shared-slice-read-pair-up c = search needs
 cast-pair-up : tie.Need-cast-pair-up
 cast-pair-up c =
     let start = c .before .before .before .before .before .before .before .before .before .before in
-    omega (arith, start .pre .3 (start .args .v - 2), start .pre .0 .ready .most)
+    omega (arith, start .pre .1 .low (start .args .v - 2), start .pre .0 .ready .most)
 
 mul-pair-up : tie.Need-mul-pair-up
 mul-pair-up c =
     let start = c .before .before .before .before .before .before .before .before .before .before in
-    omega (arith, start-low (start .pre .3 (start .args .v - 2)) (start .pre .0 .ready .most))
+    omega (arith, start-low (start .pre .1 .low (start .args .v - 2)) (start .pre .0 .ready .most))
 
 pair-up-requires-2 : tie.Need-pair-up-requires-2
 pair-up-requires-2 c κs =
@@ -59,10 +55,10 @@ pair-up-requires-2 c κs =
       room = omega (arith, j .room, c .before .before .before .fix-all .ensures .1 .long);
       some = j .ready .some;
       most = j .ready .most;
-      high = omega (arith, start .pre .1);
-      low = omega (arith, start .pre .1);
+      high = omega (arith, start .pre .1 .few);
+      low = omega (arith, start .pre .1 .few);
       two = λ e. omega (arith, c .before .before .before .before .before .before .if1 .left);
-      start-low = omega (arith, start-low (start .pre .3 (start .args .v - 2)) (j .ready .most));
+      start-low = omega (arith, start-low (start .pre .1 .low (start .args .v - 2)) (j .ready .most));
       lanes = omega (arith, j .ready .most);
     }
 
@@ -75,14 +71,16 @@ placed c =
     let p = start .pre in
     ⊎-elim
     (λ w. subst (Placed (a .k) (a .v) (a .xs .now) (a .m .now)) (sym (w .4)) (placed-one (w .0 .taken) (w .2 .ensures .0) (w .2 .ensures .1)))
-    (λ w. subst (Placed (a .k) (a .v) (a .xs .now) (a .m .now)) (sym (w .9)) (placed-more (a .k) (a .v) (a .xs .now) (w .0 .left) (p .1) (p .2) (p .0 .ready .most) (p .3) (w .3 .ensures .0) (w .3 .ensures .1) (w .7 .ensures .0) (w .7 .ensures .1)))
+    (λ w. subst (Placed (a .k) (a .v) (a .xs .now) (a .m .now)) (sym (w .9))
+    (placed-more (a .k) (a .v) (a .xs .now) (w .0 .left) (p .0 .ready .most) (p .1) (w .3 .ensures .0) (w .3 .ensures .1) (w .7 .ensures .0) (w .7 .ensures .1)))
     (c .if1 .came)
 
 compare-requires : tie.Need-compare-requires
 compare-requires c κs =
     let joined = c .before .before in
     let a = joined .before .before .before .before .args in
-    (judgeable-stays (a .k) (a .m .now) (joined .if1 .m) (placed joined .long) (joined .before .before .before .before .pre .0), kept-none (wovenMoves (a .arities .now) (a .words .now) (getD (a .heads .now) 64 0)) (a .arities .now) (a .tokens .now) (a .k) 255 _ _ (zero-at 48))
+    let j = joined .before .before .before .before .pre .0 in
+    (judgeable-stays (a .k) (a .m .now) (joined .if1 .m) (placed joined .long) j, none-kept (a .arities .now) (a .words .now) (a .heads .now) (a .tokens .now) (a .k) 255 _)
 
 same-length : tie.Need-same-length
 same-length c =
@@ -94,7 +92,7 @@ returns c =
     let joined = c .before .before .before .before in
     let p = joined .before .before .before .before .pre in
     let compared = c .before .compare .ensures in
-    (λ rule s left right. block-compared (p .0) (p .1) (placed joined) rule left right (compared .0 rule s), compared .1 .1 .long ∙ placed joined .long)
+    (λ rule s left right. block-compared (p .0) (p .1 .few) (placed joined) rule left right (compared .0 rule s), compared .1 .1 .long ∙ placed joined .long)
 
 pub block-spec : {M : Type 1} → statement M
 block-spec =

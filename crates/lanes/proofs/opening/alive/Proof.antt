@@ -26,7 +26,10 @@ value-requires : tie.Need-value-requires
 value-requires c κs =
     let start = c .before .before .before .before .before .before .before .before .before .before .before .before .before .before in
     let a = start .args in
-    valuable (start .pre .0) (start .pre .0 .left) (c .before .before .before .free-from .ensures .1 .long ∙ c .before .before .before .before .before .before .pair-up .ensures .1 .long ∙ c .before .before .before .before .before .before .before .before .before .fix-all .ensures .1 .long)
+    let j = start .pre .0 in
+    valuable j (search needs)
+    (c .before .before .before .free-from .ensures .1 .long ∙ c .before .before .before .before .before .before .pair-up .ensures .1 .long
+    ∙ c .before .before .before .before .before .before .before .before .before .fix-all .ensures .1 .long)
     (none-kept (a .arities .now) (a .words .now) (a .heads .now) (a .tokens .now) (a .k) _ _)
 
 left-lanes-requires : tie.Need-left-lanes-requires

@@ -54,7 +54,7 @@ unfolding chosen pairOf
 returns-5 c =
     let start = c .before .before .before .before in
     let a = start .args in
-    let four : a .v ≡ 4 = omega (arith, c .if4 .left, c .before .if3 .left, c .before .before .if2 .left, c .before .before .before .if1 .left, start .pre .1) in
+    let four : a .v ≡ 4 = omega (arith, c .if4 .left, c .before .if3 .left, c .before .before .if2 .left, c .before .before .before .if1 .left, start .pre .few) in
     sym (ap (λ (n : ℕ). pairOf (a .rule) n (a .x0) (a .x1) (a .x2) (a .j) (a .q)) four)
 
 pub pair-spec : {M : Type 1} → statement M

@@ -7,8 +7,8 @@ use lib.ListN.{length, getD, set, replicate}
 use lib.Seq.{getD-set-same, getD-set-other}
 use borrow.Author.Count.{below-more}
 use Rattle.values.specs.Rows.{Within}
+use Rattle.values.proofs.Rows.{store-within}
 use Rattle.lanes.specs.Blocks.{Full}
-use Rattle.lanes.proofs.VariableRows.{set-within}
 use borrow.Author.Needs.{needs}
 use Rattle.lanes.proofs.variables.fill.Statement.{statement}
 use Rattle.lanes.proofs.variables.fill.Tie as tie
@@ -23,7 +23,7 @@ one-more m₀ k a w m q room going old = record {
   upto = omega arith;
   full = below-more (λ p. getD (set m (a + q) (replicate 8 w)) (a + p) [] ≡ replicate 8 w) q
       (λ p h. getD-set-other m (a + q) (a + p) (replicate 8 w) [] (λ e. omega arith) ∙ old .full p h) (getD-set-same m (a + q) (replicate 8 w) [] (omega (arith, old .only .long)));
-  only = set-within k m₀ m a q (replicate 8 w) going (old .only);
+  only = store-within k m₀ a q m (replicate 8 w) going (old .only);
 }
 
 abbrev Inv-loop : tie.InvT-loop

@@ -24,7 +24,7 @@ shared-slice-read-fix c = search needs
 cast-fix : tie.Need-cast-fix Inv-loop μ-loop
 cast-fix c =
     let turn = c .before .before in
-    let low = turn .before .before .before .pre .2 (turn .before .loop .x) (turn .loop-test .taken) in
+    let low = turn .before .before .before .pre .1 .low (turn .before .loop .x) (turn .loop-test .taken) in
     search needs
 
 fix-requires : tie.Need-fix-requires Inv-loop μ-loop
@@ -32,8 +32,9 @@ fix-requires c κs =
     let turn = c .before .before in
     let old = turn .before .loop in
     let s = turn .before .before .before in
-    let (room, few, low, most) = s .pre in
-    (omega (arith, old .inv .1 .only .long, room), omega (arith, few, turn .loop-test .taken), low (old .x) (turn .loop-test .taken), most)
+    let (room, prefix, most) = s .pre in
+    let going = turn .loop-test .taken in
+    record { room = omega (arith, old .inv .1 .only .long, room); variable = omega (arith, prefix .few, going); low = prefix .low (old .x) going; most = most }
 
 add-x : tie.Need-add-x Inv-loop μ-loop
 add-x c = search needs
