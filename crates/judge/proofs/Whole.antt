@@ -20,6 +20,8 @@ use Rattle.woven.specs.Woven.{Flat, Indexed, SameMoves}
 use Rattle.woven.proofs.Members.{examine-same}
 use Rattle.lanes.specs.Automaton.{automatonOf}
 use Rattle.search.specs.Searched.{Searchable}
+use Rattle.verdicts.specs.declared.Closure.{Closure}
+use Rattle.verdicts.specs.Said.{Tells}
 use Rattle.judge.specs.Merged.{Merged}
 use Rattle.judge.specs.Judged.{mergedOf, badOf}
 use Rattle.judge.proofs.Bridge.{few-initial, few-states, rank, moves-merged}
@@ -79,9 +81,14 @@ module _ (t : Tables) (m : Merging) (s : Sound t m) where
       }
 
       -- What it says is what the paper says of the merged automaton.
-      pub closure-is : (budget : ℕ) → closure woven (rulesOf ar (t .rules)) budget ≡ closure (mergedOf t m) (rulesOf ar (t .rules)) budget
+      closure-is : (budget : ℕ) → closure woven (rulesOf ar (t .rules)) budget ≡ closure (mergedOf t m) (rulesOf ar (t .rules)) budget
       unfolding closure automatonOf merged
       closure-is budget = examine-same woven (mergedOf t m) there back (s .classes) (cases (m .classes) 0 (rulesOf ar (t .rules))) budget 0 ∙ ap (λ k. examine (mergedOf t m) (cases k 0 (rulesOf ar (t .rules))) budget 0) (s .classes)
+
+      -- So what it tells is told of the merged automaton.
+      pub closure-told : (budget : ℕ) {r : Closure} → Tells (Asked.answered (closure woven (rulesOf ar (t .rules)) budget)) r
+          → Tells (Asked.answered (closure (mergedOf t m) (rulesOf ar (t .rules)) budget)) r
+      closure-told budget told = record { says = told .says ∙ ap Asked.answered (closure-is budget); ended = told .ended }
 
 module _ (t : Tables) (m : Merging) where
   -- The two questions of what the tables hold.

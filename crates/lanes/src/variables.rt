@@ -26,7 +26,8 @@ fn fill(m: &mut [[u64; 8]], k: usize, a: usize, w: u64)
 // The variable x has this class in every lane.
 pub fn fix(m: &mut [[u64; 8]], k: usize, x: usize, class: usize)
     requires { ⌜ Fixable k (now m) x class ⌝ }
-    ensures { λ r. ⌜ ((l : ℕ) → l < 512 → given k (now (m .exit)) l x ≡ plus none class) × Touched k x (x + 1) (now (m .entry)) (now (m .exit)) ⌝ }
+    ensures { λ r. ⌜ ((l : ℕ) → l < 512 → given k (now (m .exit)) l x ≡ plus none class)
+        × Touched k x (x + 1) (now (m .entry)) (now (m .exit)) ⌝ }
 {
     let a = (VARIABLES + x) * k;
     fill(m, k, a, 0);
@@ -56,7 +57,8 @@ pub fn free(m: &mut [[u64; 8]], k: usize, x: usize)
 // The variables from x on may have any class.
 pub fn free_from(m: &mut [[u64; 8]], k: usize, x: usize)
     requires { ⌜ Roomy k (now m) × (x ≤ 4) × (k ≤ 64) ⌝ }
-    ensures { λ r. ⌜ ((y l : ℕ) → x ≤ y → y < 4 → l < 512 → given k (now (m .exit)) l y ≡ under k) × Touched k x 4 (now (m .entry)) (now (m .exit)) ⌝ }
+    ensures { λ r. ⌜ ((y l : ℕ) → x ≤ y → y < 4 → l < 512 → given k (now (m .exit)) l y ≡ under k)
+        × Touched k x 4 (now (m .entry)) (now (m .exit)) ⌝ }
 {
     let mut y = x;
     while y < 4 {

@@ -127,7 +127,8 @@ fn gather<'a>(
     out: usize,
 )
     requires { ⌜ Gatherable (now words) (now heads) f n k (now m) kids out ⌝ }
-    ensures { λ r. ⌜ ((arities : List ℕ) → Gathered arities (now (words .entry)) (now (heads .entry)) f n k (now (m .entry)) kids out (now (m .exit))) ⌝ }
+    ensures { λ r. ⌜ ((arities : List ℕ)
+        → Gathered arities (now (words .entry)) (now (heads .entry)) f n k (now (m .entry)) kids out (now (m .exit))) ⌝ }
 {
     let at = place(f);
     let end = place(heads[at + 1]);

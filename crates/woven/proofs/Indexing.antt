@@ -50,23 +50,23 @@ module _ (words heads : List ℕ) (d : Indexed words heads) (f : ℕ) (hf : f < 
   within = let top : f + 1 + (63 - f) ≡ 64 = omega arith in omega (arith, heads-rise (d .sorted) (f + 1) (63 - f) (omega arith), ap (λ x. getD heads x 0) top)
 
 -- A place among the words of f, up to their end.
-pub record Among (heads : List ℕ) (f end i : ℕ) : Type 0 where
+pub record Inside (heads : List ℕ) (f end i : ℕ) : Type 0 where
   pub last : end ≡ getD heads (f + 1) 0
   pub low : getD heads f 0 ≤ i
   pub high : i ≤ end
 
-pub among-first : {words heads : List ℕ} {f at end i : ℕ} → Indexed words heads → f < 64 → at ≡ f → end ≡ getD heads (at + 1) 0 → i ≡ getD heads at 0 → Among heads f end i
-among-first {heads = heads} {f = f} d hf at last first = record {
+pub inside-first : {words heads : List ℕ} {f at end i : ℕ} → Indexed words heads → f < 64 → at ≡ f → end ≡ getD heads (at + 1) 0 → i ≡ getD heads at 0 → Inside heads f end i
+inside-first {heads = heads} {f = f} d hf at last first = record {
   last = last ∙ ap (λ x. getD heads (x + 1) 0) at;
   low = omega (arith, ap (λ x. getD heads x 0) at);
   high = omega (arith, ap (λ x. getD heads x 0) at, ap (λ x. getD heads (x + 1) 0) at, d .sorted .order f hf);
 }
 
-pub among-next : {heads : List ℕ} {f end i : ℕ} → Among heads f end i → i < end → Among heads f end (i + 1)
-among-next a h = record { last = a .last; low = omega (arith, a .low); high = omega arith }
+pub inside-next : {heads : List ℕ} {f end i : ℕ} → Inside heads f end i → i < end → Inside heads f end (i + 1)
+inside-next a h = record { last = a .last; low = omega (arith, a .low); high = omega arith }
 
-pub among-room : {words heads : List ℕ} {f end i : ℕ} → Indexed words heads → f < 64 → Among heads f end i → i < end → i < 128
-among-room {words} {heads} {f} d hf a h = omega (arith, a .last, within words heads d f hf, d .room)
+pub inside-room : {words heads : List ℕ} {f end i : ℕ} → Indexed words heads → f < 64 → Inside heads f end i → i < end → i < 128
+inside-room {words} {heads} {f} d hf a h = omega (arith, a .last, within words heads d f hf, d .room)
 
 -- A row's word means the row's transition.
 word-means : (arities rows : List ℕ) → ((x : ℕ) → getD rows x 0 < 64) → (i : ℕ) → moveOf arities (wordAt rows i) ≡ moveAt arities rows i

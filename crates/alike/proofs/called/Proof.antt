@@ -5,7 +5,7 @@ use Prim.Native.Nat.{ℕ, _-_, _<_}
 use lib.ListN.{getD}
 use Rattle.sets.specs.Sets.{mem, plus}
 use Rattle.woven.specs.Woven.{part}
-use Rattle.woven.proofs.Indexing.{Among, among-first, among-next, among-room}
+use Rattle.woven.proofs.Indexing.{Inside, inside-first, inside-next, inside-room}
 use Rattle.alike.proofs.Words.{EachLive, HasClass, dead-more, called-more, live-calls}
 use borrow.Author.Needs.{needs}
 use native.Mathlib.Omega.{arith}
@@ -13,7 +13,7 @@ use Rattle.alike.proofs.called.Statement.{statement}
 use Rattle.alike.proofs.called.Tie as tie
 
 abbrev Inv-loop : tie.InvT-loop
-Inv-loop words heads f p wanted at end i₀ set₀ i set = Among heads f end i × EachLive words heads f wanted i (HasClass words p set)
+Inv-loop words heads f p wanted at end i₀ set₀ i set = Inside heads f end i × EachLive words heads f wanted i (HasClass words p set)
 
 abbrev μ-loop : tie.MeasureT-loop
 μ-loop words heads f p wanted at end i₀ set₀ i set = end - i
@@ -40,7 +40,7 @@ loop-holds : tie.Need-loop-holds Inv-loop μ-loop
 loop-holds c =
     let start = c .before .before .before .before .before in
     let at = c .before .before .before .before .place .ensures in
-    let first = among-first (start .pre .indexed) (start .pre .symbol) at (c .before .before .place2 .ensures) (c .place3 .ensures) in
+    let first = inside-first (start .pre .indexed) (start .pre .symbol) at (c .before .before .place2 .ensures) (c .place3 .ensures) in
     (first, λ k low high. absurd (omega (arith, c .place3 .ensures, ap (λ (n : ℕ). getD (start .args .heads .now) n 0) at)))
 
 -- The function's entry, from the loop's head.
@@ -49,7 +49,7 @@ entry c = c .before .before .before .before .before .before
 
 -- The place of the word that is taken.
 word-in : (c : tie.In-loop Inv-loop μ-loop) → c .before .loop .i < 128
-word-in c = let g = entry (c .before) .pre in among-room (g .indexed) (g .symbol) (c .before .loop .inv .0) (c .loop-test .taken)
+word-in c = let g = entry (c .before) .pre in inside-room (g .indexed) (g .symbol) (c .before .loop .inv .0) (c .loop-test .taken)
 
 mul-w : tie.Need-mul-w Inv-loop μ-loop
 mul-w c = omega (arith, word-in c)
@@ -81,7 +81,7 @@ loop-again c =
     let a = entry top .args in
     let at = top .loop in
     let wants : c .before .has .result ≡ mem (a .wanted) (part (getD (a .words .now) (at .i) 0) 3) = c .before .has .ensures ∙ ap (mem (a .wanted)) (c .before .before .class-at .ensures .0) in (
-      among-next (at .inv .0) (c .before .before .before .before .loop-test .taken),
+      inside-next (at .inv .0) (c .before .before .before .before .loop-test .taken),
       ⊎-elim
           (λ v.
           let is : mem (c .if1 .set) ≡ plus (mem (at .set)) _ = ap mem (v .3) ∙ (v .2 .ensures .0 ∙ ap (plus (mem (at .set))) (v .1 .ensures .0)) in

@@ -5,7 +5,7 @@ use Prim.Native.Nat.{ℕ, _+_, _-_, _<_}
 use lib.ListN.{getD}
 use Rattle.sets.specs.Sets.{mem}
 use Rattle.woven.specs.Woven.{part}
-use Rattle.woven.proofs.Indexing.{within, Among, among-first, among-next, among-room}
+use Rattle.woven.proofs.Indexing.{within, Inside, inside-first, inside-next, inside-room}
 use Rattle.alike.proofs.Words.{NarrowedBy, narrowed-start, narrowed-dead, narrowed-live, narrowed-place}
 use borrow.Author.Needs.{needs}
 use native.Mathlib.Omega.{arith}
@@ -13,7 +13,7 @@ use Rattle.alike.proofs.narrow_place.Statement.{statement}
 use Rattle.alike.proofs.narrow_place.Tie as tie
 
 abbrev Inv-loop : tie.InvT-loop
-Inv-loop words heads f p wanted same₀ at end from i₀ same i = Among heads f end i × NarrowedBy words heads f p wanted i same₀ same
+Inv-loop words heads f p wanted same₀ at end from i₀ same i = Inside heads f end i × NarrowedBy words heads f p wanted i same₀ same
 
 abbrev μ-loop : tie.MeasureT-loop
 μ-loop words heads f p wanted same₀ at end from i₀ same i = end - i
@@ -45,7 +45,7 @@ loop-holds c =
     let start = c .before .before .before .before .before in
     let a = start .args in
     let at = c .before .before .before .before .place .ensures in (
-      among-first (start .pre .0 .indexed) (start .pre .0 .symbol) at (c .before .before .place2 .ensures) (c .place3 .ensures),
+      inside-first (start .pre .0 .indexed) (start .pre .0 .symbol) at (c .before .before .place2 .ensures) (c .place3 .ensures),
       rw (from-is c) (narrowed-start (a .words .now) (a .heads .now) (a .f) (a .p) (a .wanted) (a .same .now)),
     )
 
@@ -55,7 +55,7 @@ entry c = c .before .before .before .before .before .before
 
 -- The place of the word that is taken.
 word-in : (c : tie.In-loop Inv-loop μ-loop) → c .before .loop .i < 128
-word-in c = let g = entry (c .before) .pre .0 in among-room (g .indexed) (g .symbol) (c .before .loop .inv .0) (c .loop-test .taken)
+word-in c = let g = entry (c .before) .pre .0 in inside-room (g .indexed) (g .symbol) (c .before .loop .inv .0) (c .loop-test .taken)
 
 mul-w : tie.Need-mul-w Inv-loop μ-loop
 mul-w c = omega (arith, word-in c)
@@ -97,7 +97,7 @@ loop-again c =
     let a = entry top .args in
     let at = top .loop in
     let wants : c .before .has .result ≡ mem (a .wanted) (part (getD (a .words .now) (at .i) 0) 3) = c .before .has .ensures ∙ ap (mem (a .wanted)) (c .before .before .class-at .ensures .0) in (
-      among-next (at .inv .0) (c .before .before .before .before .loop-test .taken),
+      inside-next (at .inv .0) (c .before .before .before .before .loop-test .taken),
       ⊎-elim
           (λ w.
           let stands = rw (from-is (top .before), at .inv .0 .last, w .2 .ensures) at (w .3 .ensures) in

@@ -1,12 +1,11 @@
 -- `judge::first_critical` meets its contract: the woven rows are the merged automaton's transitions, and there are rows for every class.
-use mathlib.Core.Path.{_≡_, ap, _∙_}
+use mathlib.Core.Path.{_≡_}
 use lib.ListN.{length, length-take}
 use native.Mathlib.Omega.{arith}
 use borrow.Author.Needs.{needs}
-use Rattle.paper.specs.Meaning.{Asked}
 use Rattle.tables.specs.Held.{aritiesOf}
 use Rattle.judge.proofs.Bridge.{few-states}
-use Rattle.judge.proofs.Whole.{weavable, searchable, closure-is}
+use Rattle.judge.proofs.Whole.{weavable, searchable, closure-told}
 use Rattle.judge.proofs.first_critical.Statement.{statement}
 use Rattle.judge.proofs.first_critical.Tie as tie
 
@@ -44,8 +43,7 @@ unfolding aritiesOf
 returns c =
     let start = c .before .before .before .before .before .before .before .before .before .before .before .before .before .before in
     let woven = c .before .before .before .before .before .before .before .weave .ensures in
-    let found = c .before .search .ensures in
-    record { says = found .says ∙ ap Asked.answered (closure-is _ _ (start .pre .0) _ (start .pre .1) _ _ (woven .0) (woven .1) _); ended = found .ended }
+    closure-told _ _ (start .pre .0) _ (start .pre .1) _ _ (woven .0) (woven .1) _ (c .before .search .ensures)
 
 -- Six at most.
 slice-aggregate-search-2 : tie.Need-slice-aggregate-search-2
@@ -63,8 +61,7 @@ unfolding aritiesOf
 returns-2 c =
     let start = c .before .before .before .before .before .before .before .before .before .before .before .before .before .before .before in
     let woven = c .before .before .before .before .before .before .before .before .weave .ensures in
-    let found = c .before .search2 .ensures in
-    record { says = found .says ∙ ap Asked.answered (closure-is _ _ (start .pre .0) _ (start .pre .1) _ _ (woven .0) (woven .1) _); ended = found .ended }
+    closure-told _ _ (start .pre .0) _ (start .pre .1) _ _ (woven .0) (woven .1) _ (c .before .search2 .ensures)
 
 -- Twelve at most.
 slice-aggregate-search-3 : tie.Need-slice-aggregate-search-3
@@ -82,8 +79,7 @@ unfolding aritiesOf
 returns-3 c =
     let start = c .before .before .before .before .before .before .before .before .before .before .before .before .before .before .before .before in
     let woven = c .before .before .before .before .before .before .before .before .before .weave .ensures in
-    let found = c .before .search3 .ensures in
-    record { says = found .says ∙ ap Asked.answered (closure-is _ _ (start .pre .0) _ (start .pre .1) _ _ (woven .0) (woven .1) _); ended = found .ended }
+    closure-told _ _ (start .pre .0) _ (start .pre .1) _ _ (woven .0) (woven .1) _ (c .before .search3 .ensures)
 
 -- As many as there can be.
 slice-aggregate-search-4 : tie.Need-slice-aggregate-search-4
@@ -101,8 +97,7 @@ unfolding aritiesOf
 returns-4 c =
     let start = c .before .before .before .before .before .before .before .before .before .before .before .before .before .before .before .before in
     let woven = c .before .before .before .before .before .before .before .before .before .weave .ensures in
-    let found = c .before .search4 .ensures in
-    record { says = found .says ∙ ap Asked.answered (closure-is _ _ (start .pre .0) _ (start .pre .1) _ _ (woven .0) (woven .1) _); ended = found .ended }
+    closure-told _ _ (start .pre .0) _ (start .pre .1) _ _ (woven .0) (woven .1) _ (c .before .search4 .ensures)
 
 pub first-critical-spec : {M : Type 1} → statement M
 first-critical-spec =
