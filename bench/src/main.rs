@@ -192,7 +192,7 @@ fn dense(k: u8, numbers: &mut Numbers) -> Vec<Vec<u8>> {
 
 fn main() {
     println!("{:<44} {:>10} {:>12} {:>12} {:>9} {:>9} {:>6} {:>6}", "", "examined", "checker, ms", "reference", "ns each", "ns each", "ratio", "same");
-    compare("the document's example, 207 bytes", &[example("K1.cert")], 2000, None);
+    compare("the scope's example, 207 bytes", &[example("K1.cert")], 2000, None);
     compare("the call-frame example, 366 bytes", &[example("frames-accepted.cert")], 2000, None);
     compare("the corpus of trials", &corpus(), 1, None);
 
@@ -211,7 +211,7 @@ fn main() {
     both("dense, 24 tokens a side, one rule", &arities, &rows, long, 1, LARGEST);
     both("dense, 12 tokens a side, largest total", &arities, &rows, short, 32, LARGEST);
     both("dense, 24 tokens a side, largest total", &arities, &rows, long, 32, LARGEST);
-    both("the same, stopped inside a block", &arities, &rows, long, 32, LARGEST - 1);
+    both("the same, stopped inside a batch", &arities, &rows, long, 32, LARGEST - 1);
 
     // The heaviest: all 128 rows are one binary symbol's, on both sides of every rule.
     let mut heavy: Vec<Vec<u8>> = Vec::new();

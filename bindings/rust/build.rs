@@ -1,4 +1,5 @@
-// Links the archive that `rt staticlib checker` writes; MERGECHECK_LIB names another folder that holds libchecker.a.
+// Links the archive that `rt staticlib checker` writes (x86-64); MERGECHECK_LIB names another folder that holds libchecker.a, as one that
+// `tests/archive` filled for another processor.
 use std::path::PathBuf;
 
 fn main() {

@@ -9,7 +9,7 @@ use lib.ListN.{getD}
 use Rattle.theory.specs.Lists.{countFrom}
 use Rattle.theory.specs.Term.{Term, var}
 use Rattle.theory.specs.Automaton.{Transition}
-use Rattle.sets.specs.Sets.{mem}
+use Rattle.sets.specs.Sets.{mem, allMask}
 use Rattle.sets.proofs.Laws.{mem-all}
 use Rattle.woven.specs.Woven.{part, moveOf, wovenMoves}
 use Rattle.alike.specs.Alike.{AlikeIn, AlikeFor}
@@ -19,15 +19,15 @@ use Rattle.alike.proofs.Sides.{symbol-bare}
 use Rattle.alike.proofs.First.{same-sides}
 
 -- All classes have every target of a word.
-all-targets : (arities words : List ℕ) (n : ℕ) {tr : Transition} → List·Memᴰ tr (wovenMoves arities words n) → mem 18446744073709551615 (tr .target) ≡ true
+all-targets : (arities words : List ℕ) (n : ℕ) {tr : Transition} → List·Memᴰ tr (wovenMoves arities words n) → mem allMask (tr .target) ≡ true
 unfolding wovenMoves moveOf part
 all-targets arities words n m =
     let (i, k, e) = Memᴰ·of-map (λ i. moveOf arities (getD words i 0)) (countFrom 0 n) m in
-    ap (λ tr. mem 18446744073709551615 (tr .target)) (sym e) ∙ mem-all _ (mod-lt (getD words i 0 / 2 ^ (8 * 3)) (lit< tt))
+    ap (λ tr. mem allMask (tr .target)) (sym e) ∙ mem-all _ (mod-lt (getD words i 0 / 2 ^ (8 * 3)) (lit< tt))
 
 module _ (words heads arities tokens : List ℕ) (x : ℕ) where
   -- All classes are.
-  pub all-enough : Enough words heads arities tokens x 18446744073709551615
+  pub all-enough : Enough words heads arities tokens x allMask
   all-enough M rule al ar left right bare same = record { smaller = λ d h e. absurd (false≢true (sym e ∙ mem-all d h)) }
 
   -- So are those in whose masks no smaller class is, once the masks are joined for both sides.
@@ -45,6 +45,6 @@ module _ (words heads arities tokens : List ℕ) (x : ℕ) where
         };
   }
     where
-      alike : {c d : ℕ} (t : Term ℕ) → (t ≡ var x → ⊥) → AlikeIn (M .transitions) x c d 18446744073709551615 t → AlikeFor M x c d t
+      alike : {c d : ℕ} (t : Term ℕ) → (t ≡ var x → ⊥) → AlikeIn (M .transitions) x c d allMask t → AlikeFor M x c d t
       alike t other places =
-          record { notBare = other; wanted = 18446744073709551615; targets = λ f qs q m. all-targets arities words (getD heads 64 0) (rw same at m); places = places }
+          record { notBare = other; wanted = allMask; targets = λ f qs q m. all-targets arities words (getD heads 64 0) (rw same at m); places = places }

@@ -8,6 +8,7 @@ use native.Mathlib.Omega.{arith}
 use native.Mathlib.Decide.{decLt}
 use lib.ListN.{length, getD}
 use borrow.Author.Tests.{lt-ltb, le-ltb}
+use Rattle.sets.specs.Sets.{allMask}
 use Rattle.theory.specs.Term.{Term, Terms, var, none}
 use Rattle.theory.specs.Preorder.{Token, preorder, preorderAll, no-more}
 use Rattle.theory.specs.Automaton.{Transition}
@@ -151,12 +152,12 @@ module _ (arities tokens : List ℕ) where
           }
 
     -- A whole term.
-    pub side-done : (at : ℕ) (old new : List ℕ) (next : ℕ) → RowJoined words heads arities tokens x (Subterms at 18446744073709551615) (at + 1) old new next
+    pub side-done : (at : ℕ) (old new : List ℕ) (next : ℕ) → RowJoined words heads arities tokens x (Subterms at allMask) (at + 1) old new next
         → SideJoined words heads arities tokens x at old new
     side-done at old new next r = record {
       long = r .long;
       within = r .within;
-      alike = λ t rest s d c hd m. let v = inner at t rest s in v .alike moves x c d 18446744073709551615 (r .alike (v .row) rest (v .spells) d c hd m);
+      alike = λ t rest s d c hd m. let v = inner at t rest s in v .alike moves x c d allMask (r .alike (v .row) rest (v .spells) d c hd m);
     }
 
 -- ---- one place

@@ -1,3 +1,4 @@
+-- The definitions that the contracts of `alike` cite.
 pub mod Alike
 pub mod Words
 pub mod Sides

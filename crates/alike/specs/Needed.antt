@@ -4,6 +4,7 @@ use mathlib.Core.Bool.{true, false}
 use mathlib.Core.List.{List}
 use Prim.Native.Nat.{ℕ, _≤_, _<_}
 use lib.ListN.{length, getD}
+use Rattle.paper.specs.Limits.{mostArity}
 use Rattle.theory.specs.Term.{var}
 use Rattle.theory.specs.Rewriting.{Rule}
 use Rattle.theory.specs.Preorder.{Token}
@@ -32,7 +33,7 @@ Lowest same n mask = (d : ℕ) → d < n → mem mask d ≡ false → (c : ℕ) 
 pub record RuleGiven (words heads arities tokens : List ℕ) (x : ℕ) : Type 0 where
   pub indexed : Indexed words heads
   pub long : length tokens ≡ 48
-  pub ranks : (f : ℕ) → getD arities f 0 ≤ 3
+  pub ranks : (f : ℕ) → getD arities f 0 ≤ mostArity
   pub left : Written arities tokens 0
   pub right : Written arities tokens 24
   pub variable : x < 4

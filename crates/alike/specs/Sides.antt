@@ -5,9 +5,10 @@ use mathlib.Core.List.{List, map}
 use Prim.Native.Nat.{ℕ, _+_, _≤_, _<_}
 use lib.Dec.{ltb}
 use lib.ListN.{length, getD, drop}
+use Rattle.paper.specs.Limits.{mostArity}
 use Rattle.theory.specs.Term.{Term, Terms}
 use Rattle.theory.specs.Preorder.{Token}
-use Rattle.sets.specs.Sets.{mem}
+use Rattle.sets.specs.Sets.{mem, allMask}
 use Rattle.tables.specs.Held.{tokenOf}
 use Rattle.woven.specs.Woven.{wovenMoves, Indexed}
 use Rattle.values.specs.Standing.{Spells, SpellsRow}
@@ -34,7 +35,7 @@ pub record WrittenRow (arities tokens : List ℕ) (at n : ℕ) : Type 0 where
 -- What every walk over tokens asks.
 pub record Walk (words heads arities : List ℕ) (x : ℕ) : Type 0 where
   pub indexed : Indexed words heads
-  pub ranks : (g : ℕ) → getD arities g 0 ≤ 3
+  pub ranks : (g : ℕ) → getD arities g 0 ≤ mostArity
   pub variable : x < 4
 
 -- What a token asks that is the first of the arguments.
@@ -55,7 +56,7 @@ pub record TokenJoined (words heads : List ℕ) (x token : ℕ) (here : Argument
 pub record RowGiven (words heads arities tokens : List ℕ) (x : ℕ) (here : Arguments) (at : ℕ) : Type 0 where
   pub walk : Walk words heads arities x
   pub symbol : 0 < here .left → here .symbol < 64
-  pub arguments : here .first + here .left ≤ 3
+  pub arguments : here .first + here .left ≤ mostArity
   pub row : WrittenRow arities tokens at (here .left)
 
 -- The masks are left with classes that are alike at all places of x in these arguments, behind which `next` is.
@@ -77,4 +78,4 @@ pub record SideJoined (words heads arities tokens : List ℕ) (x at : ℕ) (old 
   pub long : length new ≡ length old
   pub within : Within old new
   pub alike : (t : Term ℕ) (rest : List Token) → Spells arities tokens at t rest → (d c : ℕ) → d < 64 → mem (getD new d 0) c ≡ true
-      → AlikeIn (wovenMoves arities words (getD heads 64 0)) x c d 18446744073709551615 t
+      → AlikeIn (wovenMoves arities words (getD heads 64 0)) x c d allMask t

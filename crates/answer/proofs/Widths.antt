@@ -2,7 +2,7 @@
 use mathlib.Core.Path.{_≡_}
 use mathlib.Core.Logic.{inl, inr}
 use mathlib.Core.List.{List, [], _∷_, List·Memᴰ, List·Memᴰ·not-nil, List·Memᴰ·cases-cons}
-use Prim.Native.Nat.{ℕ, _+_, _^_, _≤_, _<_}
+use Prim.Native.Nat.{ℕ, zero, suc, _+_, _^_, _≤_, _<_}
 use native.Mathlib.Omega.{arith}
 use lib.Dec.{eqb}
 use lib.ListN.{length}
@@ -10,11 +10,12 @@ use denote.Laws.{Is}
 use denote.Enum.Declared.{row}
 use denote.Enum.Laws.{val}
 use Rattle.paper.specs.Bytes.{bytes}
+use Rattle.paper.specs.Format.{lineAt}
 use Rattle.paper.specs.Answer.{decimal, decimals, decimalIf, dash, lineWith, eight}
 use Rattle.paper.proofs.Smallest.{decided}
 use Rattle.paper.proofs.Numbers.{decimal-length}
 use Rattle.paper.proofs.Bounds.{eight-length, four-classes}
-use Rattle.verdicts.specs.Said.{classThen, classesOf, lineOf}
+use Rattle.verdicts.specs.Said.{classThen, classesOf}
 use Rattle.verdicts.specs.declared.CriticalPair.{CriticalPair}
 use Rattle.answer.specs.Shown.{shown, seven, sevenWith, Says}
 use Rattle.answer.specs.declared.Shown.{Shown}
@@ -30,9 +31,10 @@ three n h = decimal-length 2 n (omega arith)
 pub ten : (n : ℕ) → n < 4_294_967_296 → length (decimal n) ≤ 10
 ten n h = decimal-length 9 n (omega arith)
 
-pub ten-or-dash : (n : ℕ) → n < 4_294_967_296 → length (decimalIf (lineOf n)) ≤ 10
-unfolding lineOf decimalIf dash bytes
-ten-or-dash n h = elim (decided (eqb n 0)) [ inl e ↦ rw (e, lineOf) (omega arith) | inr e ↦ rw (e, lineOf) (ten n h) ]
+pub ten-or-dash : (n : ℕ) → n < 4_294_967_296 → length (decimalIf (lineAt n)) ≤ 10
+unfolding lineAt decimalIf dash bytes
+ten-or-dash zero h = omega arith
+ten-or-dash (suc n) h = ten (suc n) h
 
 module _ (x : ℕ) (xs : List ℕ) where
   then-length : (n : ℕ) → length xs ≤ n → length (classThen x xs) ≤ n + 1
@@ -52,7 +54,9 @@ unfolding classesOf
 fifteen p h0 h1 h2 h3 =
     four-classes 2 (classesOf p)
     (then-length (p .x0) _ 3 (then-length (p .x1) _ 2 (then-length (p .x2) _ 1 (then-length (p .x3) [] 0 (omega arith)))))
-    (then-below (p .x0) _ (10 ^ 3) (omega arith) (then-below (p .x1) _ (10 ^ 3) (omega arith) (then-below (p .x2) _ (10 ^ 3) (omega arith) (then-below (p .x3) [] (10 ^ 3) (omega arith) (λ y m. absurd (List·Memᴰ·not-nil m))))))
+    (then-below (p .x0) _ (10 ^ 3) (omega arith)
+    (then-below (p .x1) _ (10 ^ 3) (omega arith)
+    (then-below (p .x2) _ (10 ^ 3) (omega arith) (then-below (p .x3) [] (10 ^ 3) (omega arith) (λ y m. absurd (List·Memᴰ·not-nil m))))))
 
 -- What a function is told of a value that it is handed, and the longest value.
 abbrev pub Typed : Shown → Type 0
@@ -70,4 +74,6 @@ width l = length (shown (l .refusal)) + length (shown (l .line)) + length (shown
 
 pub says-short : {l : Lines} {text : List ℕ} → seven l ≡ text → width l ≤ 34 → Says text l
 unfolding eight seven sevenWith lineWith bytes
-says-short {l} same h = record { says = same; short = omega (arith, eight-length "" "" (shown (l .refusal)) (shown (l .line)) (shown (l .rule)) (shown (l .x)) (shown (l .class)) (shown (l .bad)) (shown (l .examined))) }
+says-short {l} same h =
+    let all = eight-length "" "" (shown (l .refusal)) (shown (l .line)) (shown (l .rule)) (shown (l .x)) (shown (l .class)) (shown (l .bad)) (shown (l .examined)) in
+    record { says = same; short = omega (arith, all) }

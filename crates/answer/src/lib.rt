@@ -1,12 +1,12 @@
 // The eight lines of an answer, written into a lent buffer.
 mod eight;
-mod put;
 mod questions;
 mod seven;
+mod verdict;
 
-pub use eight::write;
 pub use questions::write_closure;
 pub use questions::write_sharing;
+pub use verdict::write;
 use verdicts::CriticalPair;
 
 // What stands after a line's key: `-`, a number, or a critical pair's classes.

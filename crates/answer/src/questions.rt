@@ -1,10 +1,9 @@
 // The answers to the two questions.
 use crate::Shown;
-use crate::eight::put_eight;
-use crate::seven::final_pair;
-use crate::seven::found;
-use crate::seven::only_examined;
-use crate::seven::refused;
+use crate::seven::put_final_pair;
+use crate::seven::put_found;
+use crate::seven::put_only_examined;
+use crate::seven::put_refused;
 use verdicts::Closure;
 use verdicts::Sharing;
 ghost use Prim.Native.Nat.{_≤_};
@@ -19,17 +18,15 @@ pub fn write_sharing(s: Sharing, out: &mut [u8]) -> usize
     ensures { λ r. ⌜ Wrote (sharingAnswer (saidSharing s)) (now (out .entry)) r (now (out .exit)) ⌝ }
 {
     match s {
-        Sharing::Pair { class, bad } => put_eight(
+        Sharing::Pair { class, bad } => put_final_pair(
             out,
             b"sharing=shared\n",
-            final_pair(class, bad, Shown::Nothing),
+            class,
+            bad,
+            Shown::Nothing,
         ),
-        Sharing::Nothing => put_eight(out, b"sharing=none\n", only_examined(Shown::Nothing)),
-        Sharing::Refused { number, line } => put_eight(
-            out,
-            b"sharing=malformed\n",
-            refused(number, line),
-        ),
+        Sharing::Nothing => put_only_examined(out, b"sharing=none\n", Shown::Nothing),
+        Sharing::Refused { number, line } => put_refused(out, b"sharing=malformed\n", number, line),
     }
 }
 
@@ -39,25 +36,22 @@ pub fn write_closure(k: Closure, out: &mut [u8]) -> usize
     ensures { λ r. ⌜ Wrote (closureAnswer (saidClosure k)) (now (out .entry)) r (now (out .exit)) ⌝ }
 {
     match k {
-        Closure::Critical { pair, examined } => put_eight(
+        Closure::Critical { pair, examined } => put_found(
             out,
             b"closure=critical\n",
-            found(pair, examined),
+            pair,
+            examined,
         ),
-        Closure::Closed { examined } => put_eight(
+        Closure::Closed { examined } => put_only_examined(
             out,
             b"closure=closed\n",
-            only_examined(Shown::Number(examined)),
+            Shown::Number(examined),
         ),
-        Closure::Stopped { examined } => put_eight(
+        Closure::Stopped { examined } => put_only_examined(
             out,
             b"closure=stopped\n",
-            only_examined(Shown::Number(examined)),
+            Shown::Number(examined),
         ),
-        Closure::Refused { number, line } => put_eight(
-            out,
-            b"closure=malformed\n",
-            refused(number, line),
-        ),
+        Closure::Refused { number, line } => put_refused(out, b"closure=malformed\n", number, line),
     }
 }

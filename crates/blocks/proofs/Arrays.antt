@@ -1,10 +1,10 @@
 -- Arrays that are filled from the front.
-use mathlib.Core.Path.{_≡_, refl, ap, _∙_}
-use mathlib.Core.List.{List, [], _∷_, _++_, map, append-assoc, map-append, List·Memᴰ, List·Memᴰ·head, List·Memᴰ·tail}
+use mathlib.Core.Path.{_≡_, refl, sym, ap, _∙_}
+use mathlib.Core.List.{List, [], _∷_, _++_, map, append-assoc, append-nil, List·Memᴰ, List·Memᴰ·head, List·Memᴰ·tail, Memᴰ·of-map}
 use Prim.Native.Nat.{ℕ, zero, suc, _+_, _-_, _≤_, _<_}
 use native.Mathlib.Omega.{arith}
 use native.Mathlib.Numerals.{add-one}
-use lib.ListN.{length, drop, take, getD, set, length-append, length-map}
+use lib.ListN.{length, drop, take, getD, set, length-append}
 use lib.Seq.{drop-cons, take-suc, length-take-le, getD-take}
 use Rattle.theory.specs.Lists.{countFrom}
 use Rattle.fields.specs.Padded.{padded}
@@ -19,21 +19,17 @@ snoc (suc n) (x ∷ xs) v h = ap (λ (l : List ℕ). x ∷ l) (snoc n xs v (omeg
 pub padded-step : (n : ℕ) (xs : List ℕ) (at v : ℕ) → length xs ≡ at → at < n → set (padded n xs) at v ≡ padded n (xs ++ (v ∷ []))
 padded-step n xs at v e h = rw (← e) (snoc n xs v (omega arith))
 
--- five more
-pub padded-five : (n : ℕ) (xs : List ℕ) (at a b c d e : ℕ) → length xs ≡ at → at + 4 < n
-    → set (set (set (set (set (padded n xs) at a) (at + 1) b) (at + 2) c) (at + 3) d) (at + 4) e ≡ padded n (xs ++ (a ∷ (b ∷ (c ∷ (d ∷ (e ∷ []))))))
-padded-five n xs at a b c d e h l =
-    rw (
-      padded-step n xs at a h (omega arith),
-      padded-step n (xs ++ (a ∷ [])) (at + 1) b (length-append xs (a ∷ []) ∙ omega arith) (omega arith),
-      append-assoc xs (a ∷ []) (b ∷ []),
-      padded-step n (xs ++ (a ∷ (b ∷ []))) (at + 2) c (length-append xs (a ∷ (b ∷ [])) ∙ omega arith) (omega arith),
-      append-assoc xs (a ∷ (b ∷ [])) (c ∷ []),
-      padded-step n (xs ++ (a ∷ (b ∷ (c ∷ [])))) (at + 3) d (length-append xs (a ∷ (b ∷ (c ∷ []))) ∙ omega arith) (omega arith),
-      append-assoc xs (a ∷ (b ∷ (c ∷ []))) (d ∷ []),
-      padded-step n (xs ++ (a ∷ (b ∷ (c ∷ (d ∷ []))))) (at + 4) e (length-append xs (a ∷ (b ∷ (c ∷ (d ∷ [])))) ∙ omega arith) (omega arith),
-      append-assoc xs (a ∷ (b ∷ (c ∷ (d ∷ [])))) (e ∷ []),
-    )
+-- the numbers of vs, one after another from k places behind `at` on
+unfoldable pub written : (out : List ℕ) (at k : ℕ) (vs : List ℕ) → List ℕ
+written out at k [] = out
+written out at k (v ∷ vs) = written (set out (at + k) v) at (suc k) vs
+
+-- more of them
+pub padded-more : (n : ℕ) (xs : List ℕ) (at k : ℕ) (vs : List ℕ) → length xs ≡ at + k → at + k + length vs ≤ n → written (padded n xs) at k vs ≡ padded n (xs ++ vs)
+unfolding written
+padded-more n xs at k [] e h = ap (padded n) (sym (append-nil xs))
+padded-more n xs at k (v ∷ vs) e h =
+    rw (padded-step n xs (at + k) v e (omega arith), ← append-assoc xs (v ∷ []) vs) (padded-more n (xs ++ (v ∷ [])) at (suc k) vs (length-append xs (v ∷ []) ∙ omega arith) (omega arith))
 
 -- the zeros behind a part that is padded itself
 pub padded-twice : (n m : ℕ) (xs ys : List ℕ) → length xs + m ≤ n → length ys ≤ m → padded n (xs ++ padded m ys) ≡ padded n (xs ++ ys)
@@ -52,12 +48,12 @@ taken-cons items n i fits h =
     let l = length-take-le n items fits in
     rw (add-one i, drop-cons (take n items) i 0 (omega arith), getD-take n items i 0 h)
 
--- one more element of a list that goes behind others, each changed by f
-pub side-more : (f : ℕ → ℕ) (n : ℕ) (before out codes : List ℕ) (at i v : ℕ) → length before ≡ at → at + i < n → i < length codes → v ≡ f (getD codes i 0)
-    → out ≡ padded n (before ++ map f (take i codes)) → set out (at + i) v ≡ padded n (before ++ map f (take (i + 1) codes))
-side-more f n before out codes at i v e h l g p =
-    let here : length (before ++ map f (take i codes)) ≡ at + i = length-append before (map f (take i codes)) ∙ omega (arith, length-map (take i codes) f, length-take-le i codes (omega arith)) in
-    rw (p, padded-step n (before ++ map f (take i codes)) (at + i) v here h, append-assoc before (map f (take i codes)) (v ∷ []), add-one i, take-suc codes i 0 l, map-append f (take i codes) (getD codes i 0 ∷ []), g)
+-- one more element of a list that goes behind others
+pub side-more : (n : ℕ) (before out side : List ℕ) (at i : ℕ) → length before ≡ at → at + i < n → i < length side → out ≡ padded n (before ++ take i side)
+    → set out (at + i) (getD side i 0) ≡ padded n (before ++ take (i + 1) side)
+side-more n before out side at i e h l p =
+    let here : length (before ++ take i side) ≡ at + i = length-append before (take i side) ∙ omega (arith, length-take-le i side (omega arith)) in
+    rw (p, padded-step n (before ++ take i side) (at + i) (getD side i 0) here h, append-assoc before (take i side) (getD side i 0 ∷ []), add-one i, take-suc side i 0 l)
 
 pub padded-get : (n : ℕ) (xs : List ℕ) (i : ℕ) → i < n → getD (padded n xs) i 0 ≡ getD xs i 0
 unfolding padded
@@ -101,12 +97,10 @@ getD-mem [] i d h = absurd (omega arith)
 getD-mem (x ∷ xs) zero d h = List·Memᴰ·head refl
 getD-mem (x ∷ xs) (suc i) d h = List·Memᴰ·tail (getD-mem xs i d (omega arith))
 
-pub mem-low : {X : Type 0} (f : X → ℕ) (m : ℕ) (xs : List X) → ((x : X) → List·Memᴰ x xs → f x ≤ m) → (i : ℕ) → getD (map f xs) i 0 ≤ m
-mem-low f m [] h i = omega arith
-mem-low f m (x ∷ xs) h zero = h x (List·Memᴰ·head refl)
-mem-low f m (x ∷ xs) h (suc i) = mem-low f m xs (λ y p. h y (List·Memᴰ·tail p)) i
-
 pub list-low : (m : ℕ) (xs : List ℕ) → ((q : ℕ) → List·Memᴰ q xs → q ≤ m) → (i : ℕ) → getD xs i 0 ≤ m
 list-low m [] h i = omega arith
 list-low m (q ∷ xs) h zero = h q (List·Memᴰ·head refl)
 list-low m (q ∷ xs) h (suc i) = list-low m xs (λ x p. h x (List·Memᴰ·tail p)) i
+
+pub mem-low : {X : Type 0} (f : X → ℕ) (m : ℕ) (xs : List X) → ((x : X) → List·Memᴰ x xs → f x ≤ m) → (i : ℕ) → getD (map f xs) i 0 ≤ m
+mem-low f m xs h = list-low m (map f xs) (λ q p. let (x, k, e) = Memᴰ·of-map f xs p in rw (← e) (h x k))

@@ -6,9 +6,8 @@ use Prim.Native.Nat.{ℕ, _+_, _≤_, _<_, _^_}
 use native.Mathlib.Omega.{arith}
 use lib.Bits.{bitOr, or-lt}
 use lib.Pow.{pow-lt}
-use lib.ListN.{length, drop, take, getD}
+use lib.ListN.{length, drop, take, getD, drop-of-length-le}
 use lib.Seq.{length-take-le}
-use Rattle.fields.proofs.Rest.{rest-end}
 use Rattle.sets.specs.Sets.{mem, plus}
 use Rattle.sets.proofs.Laws.{mem-with, mem-ext}
 use Rattle.blocks.specs.Packed.{maskFrom}
@@ -26,4 +25,4 @@ mask-more items n i mask r fits h e = sym (rw (taken-cons items n i fits h, e))
 -- no more states
 pub mask-end : (items : List ℕ) (n i mask : ℕ) → n ≤ length items → n ≤ i → maskFrom mask (drop i (take n items)) ≡ mask
 unfolding maskFrom
-mask-end items n i mask fits h = let l = length-take-le n items fits in rw (rest-end (take n items) i (omega arith))
+mask-end items n i mask fits h = let l = length-take-le n items fits in rw (drop-of-length-le (take n items) {i = i} (omega arith))

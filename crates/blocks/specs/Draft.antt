@@ -1,13 +1,10 @@
 -- The lines in paper's words, as tails of its do-block: what is left to read when a line begins.
-use mathlib.Core.List.{List, _++_}
-use mathlib.Core.Bool.{true, false}
+use mathlib.Core.List.{List}
 use Prim.Native.Nat.{ℕ}
-use lib.Dec.{eqb}
 use Prim.Native.String.{String}
 use Rattle.theory.specs.Automaton.{Automaton}
 use Rattle.theory.specs.Rewriting.{Rule}
-use Rattle.paper.specs.Bytes.{bytes}
-use Rattle.paper.specs.Certificate.{Certificate, Kind, row, Budget, Arities, States, Final, Trans, BadStates, BadFinal, BadTrans, Rules, Merge}
+use Rattle.paper.specs.Certificate.{Certificate, Kind, Budget, Arities, States, Final, Trans, BadStates, BadFinal, BadTrans, Rules, Merge}
 use Rattle.paper.specs.Tables.{singleNumber, arityList, finalList, transition, classList}
 use Rattle.paper.specs.Format.{Reader, _>>=_, _>>_, give, fixed, lineOf, times, rule, end}
 
@@ -18,18 +15,6 @@ pub record Draft : Type 0 where
   pub A : Automaton
   pub B : Automaton
   pub rules : List Rule
-
--- The key of the transitions of the automaton whose first line has this number in the table: A's is 2, B's 5.
-unfoldable pub rowKey : ℕ → String
-rowKey kind = elim (eqb kind 2) [ true ↦ "t" | false ↦ "u" ]
-
--- A fixed line's key and `=`.
-unfoldable pub keyOf : Kind → List ℕ
-keyOf kind = bytes (row kind .key) ++ bytes "="
-
--- The same of the transitions.
-unfoldable pub rowKeyOf : ℕ → List ℕ
-rowKeyOf kind = bytes (rowKey kind) ++ bytes "="
 
 -- An automaton of n states with these final states, from its transitions on.
 unfoldable pub fromRows : String → (arities : List ℕ) → (n : ℕ) → (final : List ℕ) → ℕ → Reader Automaton

@@ -1,3 +1,4 @@
+-- The definitions that the contracts of automata and rules cite.
 pub mod Draft
 pub mod Packed
 pub mod Handed

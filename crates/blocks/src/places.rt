@@ -1,15 +1,14 @@
 // Where reading got to, and the numbers of refusals.
 ghost use mathlib.Core.Path.{_≡_};
-ghost use Prim.Native.Nat.{_<_, _^_};
 ghost use Rattle.blocks.specs.Handed.{fieldRefusal, arrowRefusal, sideRefusal};
 use fields::arrows::Arrow;
 use fields::cursor::Cursor;
 use fields::cursor::Field;
 use sides::Ends;
 
-// The next place and line, or the refusal and its line.
+// The next line, or the refusal and its line.
 pub enum Reached {
-    At { next: Cursor, line: u32 },
+    At(Cursor),
     Refused { refusal: u8, line: u32 },
 }
 
@@ -45,27 +44,4 @@ pub fn side_refusal(e: Ends) -> u8
         } => 0,
         Ends::Refused(n) => n,
     }
-}
-
-// A count as a number of 32 bits.
-pub fn short(x: usize) -> u32
-    requires { ⌜ x < 2 ^ 32 ⌝ }
-    ensures { λ r. ⌜ r ≡ x ⌝ }
-{
-    x as u32
-}
-
-// A count as a byte.
-pub fn low(x: usize) -> u8
-    requires { ⌜ x < 256 ⌝ }
-    ensures { λ r. ⌜ r ≡ x ⌝ }
-{
-    x as u8
-}
-
-// A number of 32 bits in 64.
-pub fn long(x: u32) -> u64
-    ensures { λ r. ⌜ r ≡ x ⌝ }
-{
-    x as u64
 }

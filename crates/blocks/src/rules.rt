@@ -1,29 +1,34 @@
 // The rules' lines: two for each rule, whose tokens are kept as bytes.
 ghost use mathlib.Core.Path.{_≡_};
-ghost use mathlib.Core.List.{List, map, _++_};
+ghost use mathlib.Core.List.{List, _++_};
 ghost use Prim.Native.Nat.{ℕ, _+_, _*_, _≤_, _<_};
-ghost use lib.ListN.{length, getD, take, drop};
+ghost use lib.ListN.{length, take, drop};
+ghost use Rattle.paper.specs.Limits.{mostRules, mostTokens};
 ghost use Rattle.paper.specs.Format.{rule as paperRule, times};
 ghost use Rattle.fields.specs.Padded.{padded};
+ghost use Rattle.fields.specs.Said.{Placed};
 ghost use Rattle.blocks.specs.Packed.{packedRules, noRules};
-ghost use Rattle.blocks.specs.Handed.{Handed, HandedRule, codeByte, ruledStop};
+ghost use Rattle.blocks.specs.Handed.{Handed, HandedRule, Signature, ruledStop};
 ghost use Rattle.blocks.specs.declared.rules.Ruled.the-variants.{Refused};
 use crate::places::Reached;
-use crate::places::low;
 use crate::places::side_refusal;
 use fields::cursor::Cursor;
-use fields::lists::byte;
+use fields::lists::ROOM;
 use sides::Ends;
 use sides::left_line;
 use sides::right_line;
+use tables::RULE;
+use tables::RULES;
 use tables::Rules;
+use tables::SIDE;
+use tables::SYMBOLS;
 
-// How many tokens and variables a rule has, and the next place; or the refusal and its line.
+// How many tokens and variables a rule has, and the next line; or the refusal and its line.
 pub enum Ruled {
     Got {
         lefts: usize,
         rights: usize,
-        variables: u32,
+        variables: u8,
         next: Cursor,
     },
     Refused {
@@ -32,11 +37,11 @@ pub enum Ruled {
     },
 }
 
-// A rule with the codes of its tokens.
+// A rule with its tokens.
 pub struct OneRule {
     pub answer: Ruled,
-    pub left: [u32; 64],
-    pub right: [u32; 64],
+    pub left: [u8; ROOM],
+    pub right: [u8; ROOM],
 }
 
 // A refusal, with zeros beside it.
@@ -45,18 +50,18 @@ fn no_rule(refusal: u8, line: u32) -> OneRule
 {
     OneRule {
         answer: Ruled::Refused { refusal, line },
-        left: [0u32; 64],
-        right: [0u32; 64],
+        left: [0u8; ROOM],
+        right: [0u8; ROOM],
     }
 }
 
 // A line `l=` and a line `r=`.
-fn rule(c: Cursor, file: &[u8], arities: &[u8; 64], symbols: u32, line: u32) -> OneRule
-    requires { ⌜ symbols ≤ 64 ⌝ }
-    requires { ⌜ (length (now arities) ≡ 64) × (line < 1000) ⌝ }
-    ensures { λ r. ⌜ HandedRule (now (file .entry)) (paperRule (take symbols (now (arities .entry))) line (drop (c .at) (now (file .entry)))) line (r .left) (r .right) (r .answer) ⌝ }
+fn rule(c: Cursor, file: &[u8], arities: &[u8; SYMBOLS], symbols: u32) -> OneRule
+    requires { ⌜ Signature (now arities) symbols × Placed (now file) c ⌝ }
+    ensures { λ r. ⌜ HandedRule (now (file .entry))
+        (paperRule (take symbols (now (arities .entry))) (c .line) (drop (c .at) (now (file .entry)))) (r .left) (r .right) (r .answer) ⌝ }
 {
-    let l = left_line(c, file, b"l=", arities, symbols);
+    let l = left_line(c, file, arities, symbols);
     let a = l.answer;
     let Ends::Got {
         count: lefts,
@@ -64,9 +69,9 @@ fn rule(c: Cursor, file: &[u8], arities: &[u8; 64], symbols: u32, line: u32) -> 
         next: middle,
     } = a
     else {
-        return no_rule(side_refusal(a), line);
+        return no_rule(side_refusal(a), c.line);
     };
-    let r = right_line(middle, file, b"r=", arities, symbols, variables);
+    let r = right_line(middle, file, arities, symbols, variables);
     let b = r.answer;
     let Ends::Got {
         count: rights,
@@ -74,7 +79,7 @@ fn rule(c: Cursor, file: &[u8], arities: &[u8; 64], symbols: u32, line: u32) -> 
         next,
     } = b
     else {
-        return no_rule(side_refusal(b), line + 1);
+        return no_rule(side_refusal(b), middle.line);
     };
     let left = l.tokens;
     let right = r.tokens;
@@ -90,33 +95,20 @@ fn rule(c: Cursor, file: &[u8], arities: &[u8; 64], symbols: u32, line: u32) -> 
     }
 }
 
-// The byte of a token's code.
-fn code_byte(code: u32) -> u8
-    requires { ⌜ code < 68 ⌝ }
-    ensures { λ r. ⌜ r ≡ codeByte code ⌝ }
+// Writes the n tokens of a side from the byte `at` on.
+fn put_side(tokens: &mut [u8; RULE * RULES], at: usize, side: [u8; ROOM], n: usize)
+    requires { ⌜ (n ≤ mostTokens) × (at + mostTokens ≤ 1536) ⌝ }
+    ensures { λ r. ⌜ ((before : List ℕ) → length before ≡ at → now (tokens .entry) ≡ padded 1536 before
+        → now (tokens .exit) ≡ padded 1536 (before ++ take n side)) ⌝ }
 {
-    if code < 4 {
-        return byte(64 + code);
-    }
-    byte(code - 4)
-}
-
-// The tokens of a side, from the byte `at` on.
-fn with_side(tokens: [u8; 1536], at: usize, codes: [u32; 64], n: usize) -> [u8; 1536]
-    requires { ⌜ (n ≤ 24) × (at + 24 ≤ 1536) ⌝ }
-    requires { ⌜ ((k : ℕ) → getD codes k 0 < 68) ⌝ }
-    ensures { λ r. ⌜ ((before : List ℕ) → length before ≡ at → tokens ≡ padded 1536 before → r ≡ padded 1536 (before ++ map codeByte (take n codes))) ⌝ }
-{
-    let mut out = tokens;
     let mut i = 0;
     while i < n {
-        out[at + i] = code_byte(codes[i]);
+        tokens[at + i] = side[i];
         i += 1;
     }
-    out
 }
 
-// The rules.
+// The rules and the next line, or the refusal and its line.
 pub struct ReadRules {
     pub answer: Reached,
     pub rules: Rules,
@@ -128,10 +120,10 @@ pub fn empty_rules() -> Rules
 {
     Rules {
         count: 0,
-        tokens: [0u8; 1536],
-        lefts: [0u8; 32],
-        rights: [0u8; 32],
-        variables: [0u8; 32],
+        tokens: [0u8; RULE * RULES],
+        lefts: [0u8; RULES],
+        rights: [0u8; RULES],
+        variables: [0u8; RULES],
     }
 }
 
@@ -153,29 +145,26 @@ fn ruled_stop(a: Ruled) -> Reached
     }
 }
 
-// The n rules from `start` on, of which the first begins on the line `first`.
+// The n rules from `start` on.
 pub fn read_rules(
     start: Cursor,
     file: &[u8],
-    arities: &[u8; 64],
+    arities: &[u8; SYMBOLS],
     symbols: u32,
     n: usize,
-    first: u32,
 ) -> ReadRules
-    requires { ⌜ n ≤ 32 ⌝ }
-    requires { ⌜ (symbols ≤ 64) × (first < 900) ⌝ }
-    requires { ⌜ (length (now arities) ≡ 64) × (start .at ≤ length (now file)) ⌝ }
-    ensures { λ r. ⌜ Handed (now (file .entry)) (first + 64) packedRules noRules (times n (paperRule (take symbols (now (arities .entry)))) first (drop (start .at) (now (file .entry)))) (r .answer) (r .rules) ⌝ }
+    requires { ⌜ (n ≤ mostRules) × Signature (now arities) symbols × Placed (now file) start ⌝ }
+    ensures { λ r. ⌜ Handed (now (file .entry)) packedRules noRules
+        (times n (paperRule (take symbols (now (arities .entry)))) (start .line) (drop (start .at) (now (file .entry)))) (r .answer) (r .rules) ⌝ }
 {
     let mut c = start;
-    let mut tokens = [0u8; 1536];
-    let mut lefts = [0u8; 32];
-    let mut rights = [0u8; 32];
-    let mut variables = [0u8; 32];
+    let mut tokens = [0u8; RULE * RULES];
+    let mut lefts = [0u8; RULES];
+    let mut rights = [0u8; RULES];
+    let mut variables = [0u8; RULES];
     let mut i = 0;
-    let mut line = first;
     while i < n {
-        let one = rule(c, file, arities, symbols, line);
+        let one = rule(c, file, arities, symbols);
         let a = one.answer;
         let Ruled::Got {
             lefts: l,
@@ -190,16 +179,14 @@ pub fn read_rules(
         };
         let left = one.left;
         let right = one.right;
-        let at = 48 * i;
-        let half = with_side(tokens, at, left, l);
-        let whole = with_side(half, at + 24, right, r);
-        tokens = whole;
-        lefts[i] = low(l);
-        rights[i] = low(r);
-        variables[i] = byte(v);
+        let at = RULE * i;
+        put_side(&mut tokens, at, left, l);
+        put_side(&mut tokens, at + SIDE, right, r);
+        lefts[i] = l as u8;
+        rights[i] = r as u8;
+        variables[i] = v;
         c = next;
         i += 1;
-        line += 2;
     }
     let rules = Rules {
         count: n,
@@ -209,7 +196,7 @@ pub fn read_rules(
         variables,
     };
     ReadRules {
-        answer: Reached::At { next: c, line },
+        answer: Reached::At(c),
         rules,
     }
 }

@@ -19,11 +19,12 @@ use Rattle.paper.proofs.Tokens.{tokens-exact}
 use Rattle.paper.proofs.Preorder.{preorder-exact}
 use Rattle.fields.specs.Padded.{padded}
 use Rattle.fields.proofs.Whole.{padded-low, padded-length}
-use Rattle.tables.specs.Held.{tokenOf, spoken, sideAt, ruleAt, rulesOf}
+use Rattle.tables.specs.Held.{tokenOf, byteOf, sideOf, spoken, sideAt, ruleAt, rulesOf}
 use Rattle.tables.specs.Sound.{SoundRule}
-use Rattle.blocks.specs.Packed.{byteOf, sideOf, ruleOf, sidesOf, leftCount, rightCount, packedRules}
+use Rattle.blocks.specs.Packed.{ruleOf, flat, leftCount, rightCount, packedRules}
 use Rattle.blocks.proofs.Arrays.{padded-get, drop-padded, listed, getD-mem, mem-low}
-use Rattle.blocks.proofs.RuleLaws.{sides-length, sides-append}
+use Rattle.blocks.proofs.Blocks.{flat-length, flat-append}
+use Rattle.blocks.proofs.RuleLaws.{rule-length}
 
 -- tokens and their bytes
 token-back : (ar : List ℕ) (t : Token) → length ar ≤ 64 → permitted ar t ≡ true → tokenOf (byteOf t) ≡ t
@@ -56,8 +57,11 @@ unfolding sideOf
 side-many t = sym (length-map (preorder t) byteOf)
 
 -- a side behind other bytes
-side-in : (before more : List ℕ) (t : Term ℕ) (at : ℕ) → length before ≡ at → at + 24 ≤ 1536 → length (preorder t) ≤ 24 → take (length (preorder t)) (drop at (padded 1536 (before ++ (padded 24 (sideOf t) ++ more)))) ≡ sideOf t
-side-in before more t at e h l = rw (← e, drop-padded 1536 before (padded 24 (sideOf t) ++ more) (omega arith)) (front more (sideOf t) 24 (1536 - length before) (length (preorder t)) (side-many t) l (omega arith))
+side-in : (before more : List ℕ) (t : Term ℕ) (at : ℕ) → length before ≡ at → at + 24 ≤ 1536 → length (preorder t) ≤ 24
+    → take (length (preorder t)) (drop at (padded 1536 (before ++ (padded 24 (sideOf t) ++ more)))) ≡ sideOf t
+side-in before more t at e h l =
+    rw (← e, drop-padded 1536 before (padded 24 (sideOf t) ++ more) (omega arith))
+    (front more (sideOf t) 24 (1536 - length before) (length (preorder t)) (side-many t) l (omega arith))
 
 map-get : {X : Type 0} (f : X → ℕ) (xs : List X) (i : ℕ) (d : X) → i < length xs → getD (map f xs) i 0 ≡ f (getD xs i d)
 map-get f [] i d h = absurd (omega arith)
@@ -77,35 +81,40 @@ module _ (ar : List ℕ) (rs : List Rule) (symbols : length ar ≤ 64) (few : le
 
   -- the bytes before the rule
   abbrev before : List ℕ
-  before = sidesOf (take i rs)
+  before = flat ruleOf (take i rs)
 
-  split : sidesOf rs ≡ before ++ ((padded 24 (sideOf (getD rs i d .left)) ++ padded 24 (sideOf (getD rs i d .right))) ++ sidesOf (drop (suc i) rs))
-  split = ap sidesOf (split-at rs i d h) ∙ sides-append (take i rs) (getD rs i d ∷ drop (suc i) rs) ∙ (unfold sidesOf ruleOf in refl)
+  split : flat ruleOf rs ≡ before ++ ((padded 24 (sideOf (getD rs i d .left)) ++ padded 24 (sideOf (getD rs i d .right))) ++ flat ruleOf (drop (suc i) rs))
+  split = ap (flat ruleOf) (split-at rs i d h) ∙ flat-append ruleOf (take i rs) (getD rs i d ∷ drop (suc i) rs) ∙ (unfold flat ruleOf in refl)
 
   many : length before ≡ i * 48
-  many = sides-length (take i rs) ∙ omega (arith, length-take-le i rs (omega arith))
+  many = flat-length ruleOf 48 rule-length (take i rs) ∙ omega (arith, length-take-le i rs (omega arith))
 
-  left-bytes : take (length (preorder (getD rs i d .left))) (drop (i * 48) (padded 1536 (sidesOf rs))) ≡ sideOf (getD rs i d .left)
+  left-bytes : take (length (preorder (getD rs i d .left))) (drop (i * 48) (padded 1536 (flat ruleOf rs))) ≡ sideOf (getD rs i d .left)
   left-bytes =
-      let e : sidesOf rs ≡ before ++ (padded 24 (sideOf (getD rs i d .left)) ++ (padded 24 (sideOf (getD rs i d .right)) ++ sidesOf (drop (suc i) rs))) =
-      split ∙ ap (λ l. before ++ l) (append-assoc (padded 24 (sideOf (getD rs i d .left))) (padded 24 (sideOf (getD rs i d .right))) (sidesOf (drop (suc i) rs))) in
+      let e : flat ruleOf rs ≡ before ++ (padded 24 (sideOf (getD rs i d .left)) ++ (padded 24 (sideOf (getD rs i d .right)) ++ flat ruleOf (drop (suc i) rs))) =
+      split ∙ ap (λ l. before ++ l) (append-assoc (padded 24 (sideOf (getD rs i d .left))) (padded 24 (sideOf (getD rs i d .right))) (flat ruleOf (drop (suc i) rs))) in
       rw e (side-in before _ (getD rs i d .left) (i * 48) many (omega arith) (here .left .tokens))
 
-  right-bytes : take (length (preorder (getD rs i d .right))) (drop (i * 48 + 24) (padded 1536 (sidesOf rs))) ≡ sideOf (getD rs i d .right)
+  right-bytes : take (length (preorder (getD rs i d .right))) (drop (i * 48 + 24) (padded 1536 (flat ruleOf rs))) ≡ sideOf (getD rs i d .right)
   right-bytes =
-      let e : sidesOf rs ≡ (before ++ padded 24 (sideOf (getD rs i d .left))) ++ (padded 24 (sideOf (getD rs i d .right)) ++ sidesOf (drop (suc i) rs)) =
-      split ∙ ap (λ l. before ++ l) (append-assoc (padded 24 (sideOf (getD rs i d .left))) (padded 24 (sideOf (getD rs i d .right))) (sidesOf (drop (suc i) rs)))
+      let e : flat ruleOf rs ≡ (before ++ padded 24 (sideOf (getD rs i d .left))) ++ (padded 24 (sideOf (getD rs i d .right)) ++ flat ruleOf (drop (suc i) rs)) =
+      split ∙ ap (λ l. before ++ l) (append-assoc (padded 24 (sideOf (getD rs i d .left))) (padded 24 (sideOf (getD rs i d .right))) (flat ruleOf (drop (suc i) rs)))
       ∙ sym (append-assoc before (padded 24 (sideOf (getD rs i d .left))) _) in
-      let n : length (before ++ padded 24 (sideOf (getD rs i d .left))) ≡ i * 48 + 24 = length-append before (padded 24 (sideOf (getD rs i d .left))) ∙ omega (arith, many, padded-length 24 (sideOf (getD rs i d .left))) in
+      let n : length (before ++ padded 24 (sideOf (getD rs i d .left))) ≡ i * 48 + 24 =
+      length-append before (padded 24 (sideOf (getD rs i d .left))) ∙ omega (arith, many, padded-length 24 (sideOf (getD rs i d .left))) in
       rw e (side-in (before ++ padded 24 (sideOf (getD rs i d .left))) _ (getD rs i d .right) (i * 48 + 24) n (omega arith) (here .right .tokens))
 
   left-said : sideAt ar (packedRules rs .tokens) (i * 48) (getD (packedRules rs .lefts) i 0) ≡ says (getD rs i d .left)
   unfolding packedRules leftCount
-  left-said = rw (count-at leftCount rs i d h few) (side-said ar (padded 1536 (sidesOf rs)) (i * 48) (length (preorder (getD rs i d .left))) (getD rs i d .left) symbols (here .left) left-bytes)
+  left-said =
+      rw (count-at leftCount rs i d h few)
+      (side-said ar (padded 1536 (flat ruleOf rs)) (i * 48) (length (preorder (getD rs i d .left))) (getD rs i d .left) symbols (here .left) left-bytes)
 
   right-said : sideAt ar (packedRules rs .tokens) (i * 48 + 24) (getD (packedRules rs .rights) i 0) ≡ says (getD rs i d .right)
   unfolding packedRules rightCount
-  right-said = rw (count-at rightCount rs i d h few) (side-said ar (padded 1536 (sidesOf rs)) (i * 48 + 24) (length (preorder (getD rs i d .right))) (getD rs i d .right) symbols (here .right) right-bytes)
+  right-said =
+      rw (count-at rightCount rs i d h few)
+      (side-said ar (padded 1536 (flat ruleOf rs)) (i * 48 + 24) (length (preorder (getD rs i d .right))) (getD rs i d .right) symbols (here .right) right-bytes)
 
   rule-back : ruleAt ar (packedRules rs) i ≡ getD rs i d
   unfolding ruleAt spoken
@@ -141,7 +150,9 @@ noRule = record { left = var 0; right = var 0 }
 -- The arrays hold the rules.
 pub rules-back : (ar : List ℕ) (rs : List Rule) → length ar ≤ 64 → length rs ≤ 32 → ((r : Rule) → List·Memᴰ r rs → GoodRule ar r) → rulesOf ar (packedRules rs) ≡ rs
 unfolding rulesOf
-rules-back ar rs symbols few good = ap (λ n. map (ruleAt ar (packedRules rs)) (countFrom 0 n)) (size rs) ∙ listed (ruleAt ar (packedRules rs)) noRule rs (λ i h. rule-back ar rs symbols few good i noRule h)
+rules-back ar rs symbols few good =
+    ap (λ n. map (ruleAt ar (packedRules rs)) (countFrom 0 n)) (size rs)
+    ∙ listed (ruleAt ar (packedRules rs)) noRule rs (λ i h. rule-back ar rs symbols few good i noRule h)
   where
     size : (rs : List Rule) → packedRules rs .count ≡ length rs
     size rs = unfold packedRules in refl

@@ -21,26 +21,26 @@ use Rattle.fields.proofs.Whole.{padded-low}
 use Rattle.sets.specs.Sets.{mem}
 use Rattle.sets.proofs.Laws.{mem-with, mem-zero}
 use Rattle.tables.specs.Held.{moveAt, movesOf, members, automatonOf}
-use Rattle.blocks.specs.Packed.{rowOf, rowsOf, maskFrom, packedRows, tableOf}
+use Rattle.blocks.specs.Packed.{rowOf, flat, maskFrom, packedRows, tableOf}
 use Rattle.blocks.proofs.Arrays.{padded-get, append-low, listed, getD-mem, list-low}
-use Rattle.blocks.proofs.Blocks.{row-length, rows-length, rows-append}
+use Rattle.blocks.proofs.Blocks.{row-length, flat-length, flat-append}
 use Rattle.theory.proofs.Bools.{eqb-sym}
 
 -- a row of the table
-row-at : (ts : List Transition) (i : ℕ) (d : Transition) → i < length ts → rowsOf ts ≡ rowsOf (take i ts) ++ (rowOf (getD ts i d) ++ rowsOf (drop (suc i) ts))
-row-at ts i d h = ap rowsOf (split-at ts i d h) ∙ rows-append (take i ts) (getD ts i d ∷ drop (suc i) ts) ∙ (unfold rowsOf in refl)
+row-at : (ts : List Transition) (i : ℕ) (d : Transition) → i < length ts → flat rowOf ts ≡ flat rowOf (take i ts) ++ (rowOf (getD ts i d) ++ flat rowOf (drop (suc i) ts))
+row-at ts i d h = ap (flat rowOf) (split-at ts i d h) ∙ flat-append rowOf (take i ts) (getD ts i d ∷ drop (suc i) ts) ∙ (unfold flat in refl)
 
 byte-at : (ts : List Transition) (i j : ℕ) (d : Transition) → i < length ts → length ts ≤ 128 → j < 5 → getD (packedRows ts) (i * 5 + j) 0 ≡ getD (rowOf (getD ts i d)) j 0
 unfolding packedRows
 byte-at ts i j d h l g =
-    let n = rows-length (take i ts) in
+    let n = flat-length rowOf 5 row-length (take i ts) in
     let k = length-take-le i ts (omega arith) in
-    let place : i * 5 + j ≡ length (rowsOf (take i ts)) + j = omega arith in
-    padded-get 640 (rowsOf ts) (i * 5 + j) (omega arith)
+    let place : i * 5 + j ≡ length (flat rowOf (take i ts)) + j = omega arith in
+    padded-get 640 (flat rowOf ts) (i * 5 + j) (omega arith)
     ∙ ap (λ (x : List ℕ). getD x (i * 5 + j) 0) (row-at ts i d h)
-    ∙ ap (λ k. getD (rowsOf (take i ts) ++ (rowOf (getD ts i d) ++ rowsOf (drop (suc i) ts))) k 0) place
-    ∙ getD-append-add (rowsOf (take i ts)) (rowOf (getD ts i d) ++ rowsOf (drop (suc i) ts)) j 0
-    ∙ List·getD-append (rowOf (getD ts i d)) (rowsOf (drop (suc i) ts)) 0 j (omega (arith, row-length (getD ts i d)))
+    ∙ ap (λ k. getD (flat rowOf (take i ts) ++ (rowOf (getD ts i d) ++ flat rowOf (drop (suc i) ts))) k 0) place
+    ∙ getD-append-add (flat rowOf (take i ts)) (rowOf (getD ts i d) ++ flat rowOf (drop (suc i) ts)) j 0
+    ∙ List·getD-append (rowOf (getD ts i d)) (flat rowOf (drop (suc i) ts)) 0 j (omega (arith, row-length (getD ts i d)))
 
 -- arguments in three places
 three : (args : List ℕ) → length args ≤ 3 → (x : ℕ) × (y : ℕ) × (z : ℕ) × (padded 3 args ≡ x ∷ (y ∷ (z ∷ []))) × (take (length args) (x ∷ (y ∷ (z ∷ []))) ≡ args)
@@ -51,11 +51,13 @@ three (x ∷ (y ∷ [])) h = (x, y, 0, refl, refl)
 three (x ∷ (y ∷ (z ∷ []))) h = (x, y, z, refl, refl)
 three (x ∷ (y ∷ (z ∷ (w ∷ args)))) h = absurd (omega arith)
 
-move-back : (ar rows : List ℕ) (i : ℕ) (t : Transition) → length (t .arguments) ≡ getD ar (t .symbol) 0 → length (t .arguments) ≤ 3 → ((j : ℕ) → j < 5 → getD rows (i * 5 + j) 0 ≡ getD (rowOf t) j 0) → moveAt ar rows i ≡ t
+move-back : (ar rows : List ℕ) (i : ℕ) (t : Transition) → length (t .arguments) ≡ getD ar (t .symbol) 0 → length (t .arguments) ≤ 3
+    → ((j : ℕ) → j < 5 → getD rows (i * 5 + j) 0 ≡ getD (rowOf t) j 0) → moveAt ar rows i ≡ t
 unfolding moveAt rowOf
 move-back ar rows i t n l h =
     let (x, y, z, p, q) = three (t .arguments) l in
-    let at : (j : ℕ) → j < 5 → getD rows (i * 5 + j) 0 ≡ getD (t .symbol ∷ (x ∷ (y ∷ (z ∷ (t .target ∷ []))))) j 0 = λ j k. h j k ∙ ap (λ (a : List ℕ). getD (t .symbol ∷ (a ++ (t .target ∷ []))) j 0) p in
+    let at : (j : ℕ) → j < 5 → getD rows (i * 5 + j) 0 ≡ getD (t .symbol ∷ (x ∷ (y ∷ (z ∷ (t .target ∷ []))))) j 0 =
+    λ j k. h j k ∙ ap (λ (a : List ℕ). getD (t .symbol ∷ (a ++ (t .target ∷ []))) j 0) p in
     let zero-at : i * 5 ≡ i * 5 + 0 = omega arith in
     let b0 : getD rows (i * 5) 0 ≡ t .symbol = ap (λ k. getD rows k 0) zero-at ∙ at 0 (omega arith) in
     let b1 : getD rows (i * 5 + 1) 0 ≡ x = at 1 (omega arith) in
@@ -67,7 +69,8 @@ move-back ar rows i t n l h =
 nothing : Transition
 nothing = record { symbol = 0; arguments = []; target = 0 }
 
-moves-back : (ar : List ℕ) (n : ℕ) (ts : List Transition) → ((a : ℕ) → getD ar a 0 ≤ 3) → ((t : Transition) → List·Memᴰ t ts → GoodTransition ar n t) → length ts ≤ 128 → movesOf ar (packedRows ts) (length ts) ≡ ts
+moves-back : (ar : List ℕ) (n : ℕ) (ts : List Transition) → ((a : ℕ) → getD ar a 0 ≤ 3) → ((t : Transition) → List·Memᴰ t ts → GoodTransition ar n t) → length ts ≤ 128
+    → movesOf ar (packedRows ts) (length ts) ≡ ts
 unfolding movesOf
 moves-back ar n ts low good l =
     listed (moveAt ar (packedRows ts)) nothing ts (λ i h.
@@ -79,19 +82,20 @@ one-low : (m q : ℕ) → q ≤ m → (i : ℕ) → getD (q ∷ []) i 0 ≤ m
 one-low m q h zero = h
 one-low m q h (suc i) = omega arith
 
-rows-low : (ar : List ℕ) (n : ℕ) (ts : List Transition) → length ar ≤ 64 → n ≤ 64 → ((t : Transition) → List·Memᴰ t ts → GoodTransition ar n t) → (i : ℕ) → getD (rowsOf ts) i 0 ≤ 63
-unfolding rowsOf rowOf
+rows-low : (ar : List ℕ) (n : ℕ) (ts : List Transition) → length ar ≤ 64 → n ≤ 64 → ((t : Transition) → List·Memᴰ t ts → GoodTransition ar n t) → (i : ℕ) → getD (flat rowOf ts) i 0 ≤ 63
+unfolding flat rowOf
 rows-low ar n [] s l good i = omega arith
 rows-low ar n (t ∷ ts) s l good i =
     let g = good t (List·Memᴰ·head refl) in
-    append-low 63 (t .symbol ∷ (padded 3 (t .arguments) ++ (t .target ∷ []))) (rowsOf ts)
+    append-low 63 (t .symbol ∷ (padded 3 (t .arguments) ++ (t .target ∷ []))) (flat rowOf ts)
     (append-low 63 (t .symbol ∷ []) (padded 3 (t .arguments) ++ (t .target ∷ [])) (one-low 63 (t .symbol) (omega (arith, g .symbol)))
-    (append-low 63 (padded 3 (t .arguments)) (t .target ∷ []) (padded-low 63 3 (t .arguments) (list-low 63 (t .arguments) (λ q m. omega (arith, g .arguments q m)))) (one-low 63 (t .target) (omega (arith, g .target)))))
+    (append-low 63 (padded 3 (t .arguments)) (t .target ∷ []) (padded-low 63 3 (t .arguments) (list-low 63 (t .arguments) (λ q m. omega (arith, g .arguments q m))))
+    (one-low 63 (t .target) (omega (arith, g .target)))))
     (rows-low ar n ts s l (λ u m. good u (List·Memᴰ·tail m))) i
 
 pub table-small : (ar : List ℕ) (A : Automaton) → length ar ≤ 64 → GoodAutomaton ar A → (i : ℕ) → getD (packedRows (A .transitions)) i 0 < 64
 unfolding packedRows
-table-small ar A l g i = omega (arith, padded-low 63 640 (rowsOf (A .transitions)) (rows-low ar (A .states) (A .transitions) l (omega (arith, g .most-states)) (g .transitions)) i)
+table-small ar A l g i = omega (arith, padded-low 63 640 (flat rowOf (A .transitions)) (rows-low ar (A .states) (A .transitions) l (omega (arith, g .most-states)) (g .transitions)) i)
 
 -- Masks: the members of a mask are the states that it was made of.
 mem-mask : (qs : List ℕ) (m x : ℕ) → mem (maskFrom m qs) x ≡ (mem m x || any qs (eqb x))

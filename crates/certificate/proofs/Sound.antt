@@ -9,7 +9,7 @@ use lib.ListN.{length, getD}
 use Rattle.theory.specs.Automaton.{classes}
 use Rattle.paper.specs.Certificate.{Certificate}
 use Rattle.paper.specs.WellFormed.{WellFormed}
-use Rattle.paper.specs.Format.{Reading, File, unreadable, holds, readFile, Refusal, too-long, on-line}
+use Rattle.paper.specs.Format.{lineAt, lineNumber, Reading, File, unreadable, holds, readFile, Refusal, too-long, on-line}
 use Rattle.paper.proofs.Admitted.{admitted}
 use Rattle.paper.proofs.Refused.{refused-or-holds}
 use Rattle.tables.specs.Held.{automatonOf, rulesOf, aritiesOf, mergeOf, held}
@@ -19,11 +19,11 @@ use Rattle.tables.specs.declared.Merging.{Merging}
 use Rattle.certificate.specs.declared.reading.Read.{Read}
 use Rattle.certificate.specs.declared.opening.Opening.{Opening}
 use Rattle.certificate.specs.declared.merging.ReadMerging.{ReadMerging}
-use Rattle.blocks.specs.Draft.{Draft, draft}
+use Rattle.blocks.specs.Draft.{Draft}
 use Rattle.blocks.specs.Handed.{Handed}
 use Rattle.blocks.proofs.Chain.{one-handed}
-use Rattle.blocks.specs.Packed.{rowsOf, packedRows, tableOf, packedRules, tablesOf, mergingOf, noTables, noMerging}
-use Rattle.certificate.specs.Read.{lineAt, lineNumber, draftOf, readOf, refusedRead, saidRead}
+use Rattle.blocks.specs.Packed.{rowOf, flat, packedRows, tableOf, packedRules, tablesOf, mergingOf, noTables, noMerging}
+use Rattle.certificate.specs.Read.{draftOf, readOf, refusedRead, saidRead}
 use Rattle.fields.proofs.Whole.{padded-low, padded-length}
 use Rattle.blocks.proofs.Arrays.{take-padded, list-low}
 use Rattle.certificate.proofs.HeldTables.{table-back, table-small}
@@ -78,7 +78,7 @@ module _ (c : Certificate) (w : WellFormed c) where
         well = rw held-back w;
         symbols = unfold tablesOf draftOf in (w .most-arities);
         initial-small = unfold tablesOf draftOf tableOf in (table-small (c .arities) (c .A) (w .most-arities) (w .A));
-        bad-long = unfold tablesOf draftOf tableOf packedRows in (padded-length 640 (rowsOf (c .B .transitions)));
+        bad-long = unfold tablesOf draftOf tableOf packedRows in (padded-length 640 (flat rowOf (c .B .transitions)));
         bad-small = unfold tablesOf draftOf tableOf in (table-small (c .arities) (c .B) (w .most-arities) (w .B));
         rules = ruled own-arities;
         few = unfold tablesOf draftOf in (few-variables (c .arities) (c .rules) (w .rules));
@@ -116,7 +116,8 @@ pub said-read : (file : List ℕ) → saidRead (readOf (readFile file)) ≡ read
 said-read file = said-file (readFile file) (refusal-above file) (admitted file)
 
 -- Read without a refusal, the tables are sound.
-sound-file : (f : File) → ((n : ℕ) (line : Option ℕ) → f ≡ unreadable n line → (0 < n) × ((l : ℕ) → line ≡ some l → 0 < l)) → ((c : Certificate) → f ≡ holds c → WellFormed c) → readOf f .refusal ≡ 0 → Sound (readOf f .tables) (readOf f .merging)
+sound-file : (f : File) → ((n : ℕ) (line : Option ℕ) → f ≡ unreadable n line → (0 < n) × ((l : ℕ) → line ≡ some l → 0 < l)) → ((c : Certificate) → f ≡ holds c → WellFormed c)
+    → readOf f .refusal ≡ 0 → Sound (readOf f .tables) (readOf f .merging)
 unfolding readOf refusedRead
 sound-file (holds c) h g e = sound c (g c refl)
 sound-file (unreadable n line) h g e = absurd (omega (arith, h n line refl .0))
@@ -132,12 +133,14 @@ pub read-said : (file : List ℕ) (r : Read) → r ≡ readOf (readFile file) �
 read-said file r e = ap saidRead e ∙ said-read file
 
 -- The same of the parts.
-pub one-opening : (file : List ℕ) (r s : Opening) → Handed file 330 tablesOf noTables (draft 1 file) (r .answer) (r .tables) → Handed file 330 tablesOf noTables (draft 1 file) (s .answer) (s .tables) → r ≡ s
-one-opening file r s p q =
-    let (a, b) = one-handed file 330 tablesOf noTables (draft 1 file) (r .answer) (s .answer) (r .tables) (s .tables) p q in
+pub one-opening : (file : List ℕ) (reading : Reading Draft) (r s : Opening) → Handed file tablesOf noTables reading (r .answer) (r .tables)
+    → Handed file tablesOf noTables reading (s .answer) (s .tables) → r ≡ s
+one-opening file reading r s p q =
+    let (a, b) = one-handed file tablesOf noTables reading (r .answer) (s .answer) (r .tables) (s .tables) p q in
     λ i. record { answer = a i; tables = b i }
 
-pub one-merging : (file : List ℕ) (most : ℕ) (reading : Reading (List ℕ)) (r s : ReadMerging) → Handed file most mergingOf noMerging reading (r .answer) (r .merging) → Handed file most mergingOf noMerging reading (s .answer) (s .merging) → r ≡ s
-one-merging file most reading r s p q =
-    let (a, b) = one-handed file most mergingOf noMerging reading (r .answer) (s .answer) (r .merging) (s .merging) p q in
+pub one-merging : (file : List ℕ) (reading : Reading (List ℕ)) (r s : ReadMerging) → Handed file mergingOf noMerging reading (r .answer) (r .merging)
+    → Handed file mergingOf noMerging reading (s .answer) (s .merging) → r ≡ s
+one-merging file reading r s p q =
+    let (a, b) = one-handed file mergingOf noMerging reading (r .answer) (s .answer) (r .merging) (s .merging) p q in
     λ i. record { answer = a i; merging = b i }

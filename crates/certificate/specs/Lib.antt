@@ -1,1 +1,2 @@
+-- The definitions that the reader's contracts cite.
 pub mod Read

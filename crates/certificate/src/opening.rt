@@ -1,34 +1,32 @@
-// All lines before `merge`, one function for each part: it takes its answer apart, and hands the rest of the file on.
+// All lines before `merge`.
 ghost use mathlib.Core.Path.{_≡_};
-ghost use Prim.Native.Nat.{ℕ, _+_, _≤_, _<_};
-ghost use lib.ListN.{getD, take, drop};
-ghost use Rattle.theory.specs.Automaton.{Automaton};
+ghost use lib.ListN.{take, drop};
 ghost use Rattle.fields.specs.Padded.{padded};
-ghost use Rattle.blocks.specs.Packed.{tableOf, tablesOf, noTables};
-ghost use Rattle.blocks.specs.Draft.{fromRuleCount, fromBad, fromInitial, fromArities, draft};
-ghost use Rattle.blocks.specs.Handed.{Handed};
+ghost use Rattle.fields.specs.Said.{Placed};
+ghost use Rattle.blocks.specs.Packed.{tablesOf, noTables};
+ghost use Rattle.blocks.specs.Draft.{fromInitial, draft};
+ghost use Rattle.blocks.specs.Handed.{Handed, Signature};
 ghost use Rattle.blocks.specs.declared.places.Reached.the-variants.{Refused};
 use blocks::automata::empty_table;
 use blocks::automata::read_table;
 use blocks::places::Reached;
 use blocks::places::field_refusal;
-use blocks::places::short;
 use blocks::rules::empty_rules;
 use blocks::rules::read_rules;
 use fields::cursor::Cursor;
 use fields::cursor::Field;
 use fields::lists::Listed;
 use fields::lists::list_refusal;
-use fields::lists::narrow;
 use fields::rows::BAD_STATES;
+use fields::rows::BAD_TRANSITION;
 use fields::rows::BUDGET;
 use fields::rows::RULES;
 use fields::rows::STATES;
-use fields::rows::wide;
-use tables::Table;
+use fields::rows::TRANSITION;
+use tables::SYMBOLS;
 use tables::Tables;
 
-// The place and line of `merge` with the tables, or the refusal and its line.
+// The line of `merge` with the tables, or the refusal and its line.
 pub struct Opening {
     pub answer: Reached,
     pub tables: Tables,
@@ -44,50 +42,71 @@ pub fn empty_tables() -> Tables
     Tables {
         budget: 0,
         symbols: 0,
-        arities: [0u8; 64],
+        arities: [0u8; SYMBOLS],
         initial,
         bad,
         rules,
     }
 }
 
-// A refusal, with zeros beside it.
-fn no_tables(refusal: u8, line: u32) -> Opening
-    ensures { λ r. ⌜ (r .answer ≡ Refused refusal line) × (r .tables ≡ noTables) ⌝ }
+// The answer of a part that was refused, with zeros beside it.
+fn no_opening(answer: Reached) -> Opening
+    ensures { λ r. ⌜ (r .answer ≡ answer) × (r .tables ≡ noTables) ⌝ }
 {
     let tables = empty_tables();
-    Opening {
-        answer: Reached::Refused { refusal, line },
-        tables,
-    }
+    Opening { answer, tables }
 }
 
-// From the line `rules` on.
-fn from_rules(
+// A refusal, with zeros beside it.
+pub fn no_tables(refusal: u8, line: u32) -> Opening
+    ensures { λ r. ⌜ (r .answer ≡ Refused refusal line) × (r .tables ≡ noTables) ⌝ }
+{
+    no_opening(Reached::Refused { refusal, line })
+}
+
+// From A on: A, B and the rules.
+fn from_initial(
     c: Cursor,
     file: &[u8],
-    arities: [u8; 64],
-    symbols: usize,
     budget: u32,
-    initial: Table,
-    bad: Table,
-    line: u32,
+    arities: [u8; SYMBOLS],
+    symbols: usize,
 ) -> Opening
-    requires { ⌜ (1 ≤ symbols) × (symbols ≤ 64) × (line < 800) ⌝ }
-    requires { ⌜ arities ≡ padded 64 (take symbols arities) ⌝ }
-    ensures { λ r. ⌜ ((A B : Automaton) → initial ≡ tableOf A → bad ≡ tableOf B → Handed (now (file .entry)) (line + 65) tablesOf noTables (fromRuleCount budget (take symbols arities) A B line (drop (c .at) (now (file .entry)))) (r .answer) (r .tables)) ⌝ }
+    requires { ⌜ Signature arities symbols × (arities ≡ padded 64 (take symbols arities)) ⌝ }
+    requires { ⌜ Placed (now file) c ⌝ }
+    ensures { λ r. ⌜ Handed (now (file .entry)) tablesOf noTables
+        (fromInitial budget (take symbols arities) (c .line) (drop (c .at) (now (file .entry)))) (r .answer) (r .tables) ⌝ }
 {
-    let f = c.number_line(file, b"rules=", RULES);
+    let listed = symbols as u32;
+    let first = read_table(c, file, STATES, TRANSITION, &arities, listed);
+    let a = first.answer;
+    let Reached::At(second_line) = a else {
+        return no_opening(a);
+    };
+    let second = read_table(
+        second_line,
+        file,
+        BAD_STATES,
+        BAD_TRANSITION,
+        &arities,
+        listed,
+    );
+    let b = second.answer;
+    let Reached::At(count_line) = b else {
+        return no_opening(b);
+    };
+    let f = count_line.number_line(file, RULES);
     let Field::Read { value, next } = f else {
-        return no_tables(field_refusal(f), line);
+        return no_tables(field_refusal(f), count_line.line);
     };
-    let read = read_rules(next, file, &arities, short(symbols), wide(value), line + 1);
-    let answer = read.answer;
-    let Reached::At { next: _, line: _ } = answer else {
-        let tables = empty_tables();
-        return Opening { answer, tables };
+    let third = read_rules(next, file, &arities, listed, value as usize);
+    let answer = third.answer;
+    let Reached::At(_) = answer else {
+        return no_opening(answer);
     };
-    let rules = read.rules;
+    let initial = first.table;
+    let bad = second.table;
+    let rules = third.rules;
     let tables = Tables {
         budget,
         symbols,
@@ -99,75 +118,20 @@ fn from_rules(
     Opening { answer, tables }
 }
 
-// From B on.
-fn from_bad(
-    c: Cursor,
-    file: &[u8],
-    arities: [u8; 64],
-    symbols: usize,
-    budget: u32,
-    initial: Table,
-    line: u32,
-) -> Opening
-    requires { ⌜ (1 ≤ symbols) × (symbols ≤ 64) × (line < 600) ⌝ }
-    requires { ⌜ arities ≡ padded 64 (take symbols arities) ⌝ }
-    requires { ⌜ ((k : ℕ) → getD arities k 0 ≤ 3) ⌝ }
-    ensures { λ r. ⌜ ((A : Automaton) → initial ≡ tableOf A → Handed (now (file .entry)) (line + 196) tablesOf noTables (fromBad budget (take symbols arities) A line (drop (c .at) (now (file .entry)))) (r .answer) (r .tables)) ⌝ }
+// The tables from a place on, and the line of the `merge` behind them.
+pub fn read_tables(start: Cursor, file: &[u8]) -> Opening
+    requires { ⌜ Placed (now file) start ⌝ }
+    ensures { λ r. ⌜ Handed (now (file .entry)) tablesOf noTables (draft (start .line) (drop (start .at) (now (file .entry)))) (r .answer) (r .tables) ⌝ }
 {
-    let read = read_table(
-        c,
-        file,
-        b"badstates=",
-        b"badfinal=",
-        b"badtrans=",
-        b"u=",
-        BAD_STATES,
-        &arities,
-        short(symbols),
-        line,
-    );
-    let answer = read.answer;
-    let Reached::At { next, line: after } = answer else {
-        let tables = empty_tables();
-        return Opening { answer, tables };
+    let f = start.number_line(file, BUDGET);
+    let Field::Read {
+        value,
+        next: second,
+    } = f
+    else {
+        return no_tables(field_refusal(f), start.line);
     };
-    let bad = read.table;
-    from_rules(next, file, arities, symbols, budget, initial, bad, after)
-}
-
-// From A on.
-fn from_initial(c: Cursor, file: &[u8], arities: [u8; 64], symbols: usize, budget: u32) -> Opening
-    requires { ⌜ (1 ≤ symbols) × (symbols ≤ 64) ⌝ }
-    requires { ⌜ arities ≡ padded 64 (take symbols arities) ⌝ }
-    requires { ⌜ ((k : ℕ) → getD arities k 0 ≤ 3) ⌝ }
-    ensures { λ r. ⌜ Handed (now (file .entry)) 330 tablesOf noTables (fromInitial budget (take symbols arities) 3 (drop (c .at) (now (file .entry)))) (r .answer) (r .tables) ⌝ }
-{
-    let read = read_table(
-        c,
-        file,
-        b"states=",
-        b"final=",
-        b"trans=",
-        b"t=",
-        STATES,
-        &arities,
-        short(symbols),
-        3,
-    );
-    let answer = read.answer;
-    let Reached::At { next, line: after } = answer else {
-        let tables = empty_tables();
-        return Opening { answer, tables };
-    };
-    let initial = read.table;
-    from_bad(next, file, arities, symbols, budget, initial, after)
-}
-
-// From the line `arities` on.
-fn from_arities(c: Cursor, file: &[u8], budget: u32) -> Opening
-    ensures { λ r. ⌜ Handed (now (file .entry)) 330 tablesOf noTables (fromArities budget 2 (drop (c .at) (now (file .entry)))) (r .answer) (r .tables) ⌝ }
-{
-    let it = c.arities_line(file, b"arities=");
+    let it = second.arities_line(file);
     let answer = it.answer;
     let Listed::Got {
         count,
@@ -175,20 +139,8 @@ fn from_arities(c: Cursor, file: &[u8], budget: u32) -> Opening
         next,
     } = answer
     else {
-        return no_tables(list_refusal(answer), 2);
+        return no_tables(list_refusal(answer), second.line);
     };
-    let items = it.items;
-    let arities = narrow(items);
-    from_initial(next, file, arities, count, budget)
-}
-
-// The tables of a file, and the place and line of its `merge`.
-pub fn read_tables(file: &[u8]) -> Opening
-    ensures { λ r. ⌜ Handed (now (file .entry)) 330 tablesOf noTables (draft 1 (now (file .entry))) (r .answer) (r .tables) ⌝ }
-{
-    let f = Cursor { at: 0 }.number_line(file, b"budget=", BUDGET);
-    let Field::Read { value, next } = f else {
-        return no_tables(field_refusal(f), 1);
-    };
-    from_arities(next, file, value)
+    let arities = it.items;
+    from_initial(next, file, value, arities, count)
 }

@@ -34,7 +34,7 @@ pub fn stopped(a: Reached) -> Read
     ensures { λ r. ⌜ r ≡ stopRead a ⌝ }
 {
     match a {
-        Reached::At { next: _, line: _ } => refused(0, 0),
+        Reached::At(_) => refused(0, 0),
         Reached::Refused { refusal, line } => refused(refusal, line),
     }
 }

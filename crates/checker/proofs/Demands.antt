@@ -88,7 +88,8 @@ module _ (file buffer : List ℕ) (r : Answered) (left : List ℕ) (given : Answ
       (ap (λ (x : Returned). x .number) e, ap (λ (x : Returned). x .written) e, ap (λ (x : Returned). x .buffer) e)
 
   -- Otherwise the number of the refusal, the length of the answer, the answer's own bytes, and the later bytes as they were.
-  pub written : leastBuffer ≤ length buffer → (r .number ≡ refusal (verdictOf file)) × (r .length ≡ length (answerOf file)) × (take (r .length) left ≡ answerOf file) × (drop (r .length) left ≡ drop (r .length) buffer)
+  pub written : leastBuffer ≤ length buffer
+      → (r .number ≡ refusal (verdictOf file)) × (r .length ≡ length (answerOf file)) × (take (r .length) left ≡ answerOf file) × (drop (r .length) left ≡ drop (r .length) buffer)
   written h =
       let (number, count) = number-and-length file buffer h in
       let n : r .length ≡ length (answerOf file) = ap (λ (x : Returned). x .written) given ∙ count in
@@ -96,7 +97,8 @@ module _ (file buffer : List ℕ) (r : Answered) (left : List ℕ) (given : Answ
       (ap (λ (x : Returned). x .number) given ∙ number, n, rw (b, n) (answer-stands file buffer h), rw (b, n) (rest-stays file buffer h))
 
   -- A refused file: its number and its line.
-  pub refused-written : leastBuffer ≤ length buffer → (number : ℕ) (line : Option ℕ) → readFile file ≡ unreadable number line → (take (r .length) left ≡ answer (malformed number line)) × (r .number ≡ number)
+  pub refused-written : leastBuffer ≤ length buffer → (number : ℕ) (line : Option ℕ) → readFile file ≡ unreadable number line
+      → (take (r .length) left ≡ answer (malformed number line)) × (r .number ≡ number)
   unfolding answerOf refusal
   refused-written h n line e =
       let (number, count, bs, later) = written h in
@@ -107,7 +109,8 @@ module _ (file buffer : List ℕ) (r : Answered) (left : List ℕ) (given : Answ
   pub too-long-written : leastBuffer ≤ length buffer → mostBytes < length file → (take (r .length) left ≡ answer (malformed 2 none)) × (r .number ≡ 2)
   too-long-written h l = refused-written h 2 none (too-long-exact file 2 .1 (refl, l))
 
-  pub reason-written : leastBuffer ≤ length buffer → length file ≤ mostBytes → (n L : ℕ) → First (laidCertificate 1 file) n L → (take (r .length) left ≡ answer (malformed n (some L))) × (r .number ≡ n)
+  pub reason-written : leastBuffer ≤ length buffer → length file ≤ mostBytes → (n L : ℕ) → First (laidCertificate 1 file) n L
+      → (take (r .length) left ≡ answer (malformed n (some L))) × (r .number ≡ n)
   reason-written h l n L f = refused-written h n (some L) (refused-exact file n L .1 (l, f))
 
   -- Demand 2: the row of the table that holds of the file's tables is the answer written, with the number 0 ..
@@ -141,7 +144,8 @@ module _ (file buffer : List ℕ) (r : Answered) (left : List ℕ) (given : Answ
   ]
 
   -- Conversely an acritical, suitable merging whose total is within the budget is accepted.
-  pub conclusive-accepted : leastBuffer ≤ length buffer → (c : Certificate) → readFile file ≡ holds c → Suitable (merged (c .merge) (c .A)) (c .B) → Acritical (merged (c .merge) (c .A)) (c .rules) → total (classes (c .merge)) (c .rules) ≤ c .budget → Begins "verdict=accepted" (take (r .length) left)
+  pub conclusive-accepted : leastBuffer ≤ length buffer → (c : Certificate) → readFile file ≡ holds c → Suitable (merged (c .merge) (c .A)) (c .B)
+      → Acritical (merged (c .merge) (c .A)) (c .rules) → total (classes (c .merge)) (c .rules) ≤ c .budget → Begins "verdict=accepted" (take (r .length) left)
   unfolding answerOf
   conclusive-accepted h c e s a l =
       let (number, count, bs, later) = written h in

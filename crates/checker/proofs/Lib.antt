@@ -1,4 +1,5 @@
+-- The laws of the public operations, and the three demands.
 pub mod Laws
-pub mod Judged
+pub mod FromReading
 pub mod Numbers
 pub mod Demands

@@ -2,8 +2,8 @@
 use mathlib.Core.List.{List, [], _∷_}
 use Prim.Native.Nat.{ℕ}
 use lib.ListN.{getD}
+use Rattle.paper.specs.Format.{lineNumber}
 use Rattle.paper.specs.Meaning.{Sharing, Closure, Asked}
-use Rattle.verdicts.specs.Said.{lineNumber}
 
 -- The first question: 0 nothing, 1 a pair, 2 refused.
 unfoldable pub sharingKind : Asked Sharing → ℕ

@@ -16,7 +16,8 @@ ghost use Rattle.checker.specs.Numbers.{sharingKind, sharingNumbers, clo
 // Gives the refusal's number (0 when not malformed) times 256, plus the answer's length, which is under 128.
 #[no_mangle]
 pub extern "C" fn mergecheck(file: &[u8], out: &mut [u8]) -> u64
-    ensures { λ r. ⌜ (r ≡ packed (returned (now (file .entry)) (now (out .entry)))) × (now (out .exit) ≡ returned (now (file .entry)) (now (out .entry)) .buffer) ⌝ }
+    ensures { λ r. ⌜ (r ≡ packed (returned (now (file .entry)) (now (out .entry))))
+        × (now (out .exit) ≡ returned (now (file .entry)) (now (out .entry)) .buffer) ⌝ }
 {
     let a = check(file, out);
     let number = a.number as u64;

@@ -3,7 +3,7 @@ use mathlib.Core.Path.{_≡_, refl, sym, ap, _∙_}
 use mathlib.Core.Bool.{Bool, true, false, not}
 use mathlib.Core.Logic.{inl, inr}
 use mathlib.Core.List.{List, [], _∷_}
-use Prim.Native.Nat.{ℕ, zero, suc, _+_, _-_, _≤_}
+use Prim.Native.Nat.{ℕ, _+_, _-_}
 use native.Mathlib.Omega.{arith}
 use borrow.Author.Tests.{eq-eqb, ne-eqb, eqb-true, eqb-false}
 use lib.Dec.{eqb}
@@ -15,21 +15,28 @@ use Rattle.paper.specs.Tables.{numbers as numbersIn4, numbersOf}
 use Rattle.paper.proofs.Smallest.{decided}
 use Rattle.paper.proofs.Checked.{silent, parts}
 use Rattle.paper.proofs.Lines.{entries-sound}
-use Rattle.fields.specs.declared.cursor.Cursor.{Cursor}
+use Rattle.paper.specs.Certificate.{Row}
+use Rattle.fields.specs.declared.cursor.Sort.{Sort}
+use Rattle.fields.specs.declared.cursor.Sort.the-variants.{Numbers, Tokens}
 use Rattle.fields.specs.declared.cursor.Opened.{Opened}
 use Rattle.fields.specs.declared.cursor.Opened.the-variants.{At, Missing}
-use Rattle.fields.specs.Value.{Value, numbers, notNumbers, back, code, entriesFrom, valueOf}
-use Rattle.fields.specs.Line.{afterKey, hasEnd, ending, openAt}
+use Rattle.fields.specs.Value.{Value, numbers, notNumbers, back, code, sortKind, valueOf}
+use Rattle.fields.specs.Line.{afterKey, hasEnd, ending, openAt, keyOf}
 use Rattle.fields.specs.Listed.{beyond}
 use Rattle.fields.specs.Lines.{Line, good, bad, numbersIn, lineIn, entryLine, checked}
-use Rattle.fields.specs.Said.{keyed, saidLine}
+use Rattle.fields.proofs.Readings.{keyed}
 use Rattle.fields.proofs.Digits.{readOn, read-number}
 use Rattle.fields.proofs.Entries.{saidValue, found, headed, ended-has, ended-not, entries-said}
 use Rattle.fields.proofs.Rest.{next-rest}
 
+-- A list line as the byte machine has it, of any length.
+unfoldable pub saidLine : List ℕ → Line → Checked (Said (List ℕ))
+saidLine file (good ns at) = says (record { what = ns; rest = drop at file })
+saidLine file (bad r) = fault r
+
 -- The key.
 unfoldable pub saidOpened : List ℕ → Opened → Checked (List ℕ)
-saidOpened file (At c) = says (drop (c .at) file)
+saidOpened file (At c) = says (drop c file)
 saidOpened file Missing = fault 3
 
 after-said : (file key s : List ℕ) (at : ℕ) → drop at file ≡ s → saidOpened file (afterKey key at s) ≡ after key s
@@ -42,36 +49,36 @@ after-said file (k ∷ ks) (b ∷ s) at d = elim (decided (eqb b k)) [
 ]
 
 -- A line that is there: its value, and what is judged of it.
-pub record There {X : Type 0} (key : List ℕ) (judge : List ℕ → Checked X) (file : List ℕ) (at : ℕ) (c : Cursor) : Type 0 where
+pub record There {X : Type 0} (key : List ℕ) (judge : List ℕ → Checked X) (file : List ℕ) (at c : ℕ) : Type 0 where
   pub line : (Said (List ℕ))
-  pub ends : ended (drop (c .at) file) ≡ says line
+  pub ends : ended (drop c file) ≡ says line
   pub is : keyed key judge (drop at file) ≡ found (line .rest) (judge (line .what))
 
 module _ {X : Type 0} (key : List ℕ) (judge : List ℕ → Checked X) (file : List ℕ) (at : ℕ) where
   ending-missing : (o : Opened) → saidOpened file o ≡ after key (drop at file) → ending file o ≡ Missing → keyed key judge (drop at file) ≡ fault 3
   unfolding ending saidOpened keyed _>>=_
   ending-missing Missing e h = rw (← e)
-  ending-missing (At c) e h = elim (decided (hasEnd (drop (c .at) file))) [
+  ending-missing (At c) e h = elim (decided (hasEnd (drop c file))) [
     | inl p ↦ let w : At c ≡ Missing = rw (p, ending) at h in let z : _≡_ {A = ℕ} 0 1 = cc in absurd (omega arith)
-    | inr p ↦ rw (← e, ended-not (drop (c .at) file) p)
+    | inr p ↦ rw (← e, ended-not (drop c file) p)
   ]
 
   pub keyed-missing : openAt key file at ≡ Missing → keyed key judge (drop at file) ≡ fault 3
   keyed-missing h = ending-missing (afterKey key at (drop at file)) (after-said file key (drop at file) at refl) h
 
-  ending-at : (o : Opened) (c : Cursor) → saidOpened file o ≡ after key (drop at file) → ending file o ≡ At c → There key judge file at c
+  ending-at : (o : Opened) (c : ℕ) → saidOpened file o ≡ after key (drop at file) → ending file o ≡ At c → There key judge file at c
   unfolding ending saidOpened keyed found _>>=_
   ending-at Missing c e h = let z : _≡_ {A = ℕ} 0 1 = cc in absurd (omega arith)
-  ending-at (At d) c e h = elim (decided (hasEnd (drop (d .at) file))) [
+  ending-at (At d) c e h = elim (decided (hasEnd (drop d file))) [
     | inr p ↦ let w : Missing ≡ At c = rw (p, ending) at h in let z : _≡_ {A = ℕ} 0 1 = cc in absurd (omega arith)
     | inl p ↦
         let w : At d ≡ At c = rw (p, ending) at h in
         let same : d ≡ c = cc in
-        let (l, f) = ended-has (drop (d .at) file) p in
+        let (l, f) = ended-has (drop d file) p in
         rw (← same) (record { line = l; ends = f; is = rw (← e, f) })
   ]
 
-  pub keyed-at : (c : Cursor) → openAt key file at ≡ At c → There key judge file at c
+  pub keyed-at : (c : ℕ) → openAt key file at ≡ At c → There key judge file at c
   keyed-at c h = ending-at (afterKey key at (drop at file)) c (after-said file key (drop at file) at refl) h
 
 -- The entries of a value, as the machine reads them; an empty value has none where it may be empty.
@@ -83,12 +90,12 @@ valuesOf y false value = values y value
 valuesOf y true [] = says []
 valuesOf y true (b ∷ bs) = values y (b ∷ bs)
 
--- 5: the first is above f, or another above m.
-unfoldable pub inRange : ℕ → ℕ → List ℕ → Checked (List ℕ)
-inRange f m ns = 5 unless not (beyond f m ns) >> says ns
+-- 5: an entry is past its limit.
+unfoldable pub inRange : Sort → List ℕ → Checked (List ℕ)
+inRange sort ns = 5 unless not (beyond sort ns) >> says ns
 
-unfoldable pub ranged : ℕ → ℕ → ℕ → Bool → List ℕ → Checked (List ℕ)
-ranged y f m empty value = valuesOf y empty value >>= inRange f m
+unfoldable pub ranged : Sort → Bool → List ℕ → Checked (List ℕ)
+ranged sort empty value = valuesOf (sortKind sort) empty value >>= inRange sort
 
 headed-each : (f : List ℕ → Checked ℕ) (es : List (List ℕ)) (e : List ℕ) (rest : List (List ℕ)) → es ≡ e ∷ rest → headed f f es ≡ each f es
 unfolding headed each
@@ -106,70 +113,78 @@ each-some : (f : List ℕ → Checked ℕ) (value : List ℕ) → each f (entrie
 each-some f value h = let i = entries-sound value in headed-some f f (entries value) (headed-each f (entries value) (i .first) (i .others) (i .are) ∙ h)
 
 -- A value with a byte in it.
-line-numbers : (file : List ℕ) (f m : ℕ) (empty : Bool) (x : Value) (behind : List ℕ) (j : Checked (List ℕ)) → (j ≡ says [] → ⊥)
-    → saidValue file x ≡ found behind j → saidLine file (numbersIn f m empty x) ≡ found behind (j >>= inRange f m)
+line-numbers : (file : List ℕ) (sort : Sort) (empty : Bool) (x : Value) (behind : List ℕ) (j : Checked (List ℕ)) → (j ≡ says [] → ⊥)
+    → saidValue file x ≡ found behind j → saidLine file (numbersIn sort empty x) ≡ found behind (j >>= inRange sort)
 unfolding saidValue found numbersIn saidLine _>>=_
-line-numbers file f m empty notNumbers behind (fault n) h e = e
-line-numbers file f m empty notNumbers behind (says ns) h e = absurd (silent e)
-line-numbers file f m empty (numbers ns at) behind (fault n) h e = absurd (silent (sym e))
-line-numbers file f m empty (numbers [] at) behind (says ms) h e = absurd (h (let same : _≡_ {A = Said (List ℕ)} (record { what = []; rest = drop at file }) (record { what = ms; rest = behind }) = cc in ap says (sym (ap (λ (s : Said (List ℕ)). s .what) same))))
-line-numbers file f m empty (numbers (v ∷ ns) at) behind (says ms) h e =
+line-numbers file sort empty notNumbers behind (fault n) h e = e
+line-numbers file sort empty notNumbers behind (says ns) h e = absurd (silent e)
+line-numbers file sort empty (numbers ns at) behind (fault n) h e = absurd (silent (sym e))
+line-numbers file sort empty (numbers [] at) behind (says ms) h e =
+    let same : _≡_ {A = Said (List ℕ)} (record { what = []; rest = drop at file }) (record { what = ms; rest = behind }) = cc in
+    absurd (h (ap says (sym (ap (λ (s : Said (List ℕ)). s .what) same))))
+line-numbers file sort empty (numbers (v ∷ ns) at) behind (says ms) h e =
     let same : _≡_ {A = Said (List ℕ)} (record { what = v ∷ ns; rest = drop at file }) (record { what = ms; rest = behind }) = cc in
     let p : v ∷ ns ≡ ms = ap (λ (s : Said (List ℕ)). s .what) same in
     let q : drop at file ≡ behind = ap (λ (s : Said (List ℕ)). s .rest) same in
-    rw (← p, ← q) (elim (decided (beyond f m (v ∷ ns))) [
+    rw (← p, ← q) (elim (decided (beyond sort (v ∷ ns))) [
       | inl b ↦ unfold inRange _unless_ _>>_ in (rw (b, numbersIn))
       | inr b ↦ unfold inRange _unless_ _>>_ in (rw (b, numbersIn))
     ])
 
-module _ (file : List ℕ) (f m at y b : ℕ) (s : List ℕ) where
-  at-lf : (empty : Bool) → drop (at + 1) file ≡ s → eqb b 10 ≡ true → saidLine file (numbersIn f m empty (valueOf y at (b ∷ s))) ≡ found s (ranged y f m empty [])
-  unfolding valueOf numbersIn saidLine ranged valuesOf values inRange beyond each entries readOn found _unless_ _>>_ _>>=_
-  at-lf true d h = rw (h, valueOf) (rw d)
-  at-lf false d h = rw (h, valueOf)
+pub values-some : (y : ℕ) (value : List ℕ) → values y value ≡ says [] → ⊥
+unfolding values
+values-some y value h = each-some (readOn y 0 0) value h
 
-  has-byte : (empty : Bool) (v r : List ℕ) → eqb b 10 ≡ false → saidValue file (entriesFrom y 0 0 at (b ∷ s)) ≡ found r (each (readOn y 0 0) (entries (b ∷ v)))
-      → saidLine file (numbersIn f m empty (valueOf y at (b ∷ s))) ≡ found r (ranged y f m empty (b ∷ v))
-  unfolding valueOf ranged
-  has-byte empty v r h w = rw (h, valueOf) (line-numbers file f m empty _ r _ (each-some (readOn y 0 0) (b ∷ v)) w ∙ ap (λ j. found r (j >>= inRange f m)) (some-byte empty))
-    where
-      some-byte : (empty : Bool) → each (readOn y 0 0) (entries (b ∷ v)) ≡ valuesOf y empty (b ∷ v)
-      some-byte true = unfold valuesOf values in refl
-      some-byte false = unfold valuesOf values in refl
-
-value-said : (file s : List ℕ) (y f m : ℕ) (empty : Bool) (at : ℕ) (l : (Said (List ℕ))) → back y ≡ y → drop at file ≡ s → ended s ≡ says l
-    → saidLine file (numbersIn f m empty (valueOf y at s)) ≡ found (l .rest) (ranged y f m empty (l .what))
+-- The value alone, before any further test.
+pub value-found : (file s : List ℕ) (y at : ℕ) (l : (Said (List ℕ))) → back y ≡ y → drop at file ≡ s → ended s ≡ says l → saidValue file (valueOf y at s) ≡ found (l .rest) (valuesOf y true (l .what))
 unfolding ended
-value-said file [] y f m empty at l k d e = absurd (silent e)
-value-said file (b ∷ s) y f m empty at l k d e = elim (decided (eqb b 10)) [
+value-found file [] y at l k d e = absurd (silent e)
+value-found file (b ∷ s) y at l k d e = elim (decided (eqb b 10)) [
   | inl h ↦
       let g = rw (h, ended) at e in
       let same : record { what = []; rest = s } ≡ l = cc in
-      rw (← same) (at-lf file f m at y b s empty (next-rest file at b s d) h)
+      rw (← same) (unfold valueOf saidValue valuesOf found _>>=_ in (rw (h, valueOf) (rw (next-rest file at b s d))))
   | inr h ↦
       let (p, q, g) = parts (ended s) _ (rw (h, ended) at e) in
       let same : record { what = b ∷ p .what; rest = p .rest } ≡ l = cc in
       let i = entries-sound (b ∷ p .what) in
       let u = rw (← same) at (entries-said file (b ∷ s) y 0 0 at l d e) in
       let w = rw (k, headed-each (readOn y 0 0) (entries (b ∷ p .what)) (i .first) (i .others) (i .are)) at u in
-      rw (← same) (has-byte file f m at y b s empty (p .what) (p .rest) h w)
+      rw (← same) (unfold valueOf valuesOf values in (rw (h, valueOf) w))
 ]
 
--- A line of entries of kind y, each in its range.
-pub line-said : (file key : List ℕ) (y f m : ℕ) (empty : Bool) (at : ℕ) → y ≤ 1
-    → saidLine file (entryLine y key f m empty file at) ≡ keyed key (ranged y f m empty) (drop at file)
-line-said file key y f m empty at h = go (openAt key file at) refl (kind y h)
-  where
-    kind : (y : ℕ) → y ≤ 1 → back y ≡ y
-    kind zero h = refl
-    kind (suc zero) h = refl
-    kind (suc (suc y)) h = absurd (omega arith)
+-- What a value up to its LF comes to, where it may be empty or not.
+module _ (file : List ℕ) (sort : Sort) where
+  value-line : (empty : Bool) (value behind : List ℕ) (x : Value) → saidValue file x ≡ found behind (valuesOf (sortKind sort) true value)
+      → saidLine file (numbersIn sort empty x) ≡ found behind (ranged sort empty value)
+  unfolding saidValue saidLine numbersIn ranged valuesOf values each entries readOn inRange beyond found _unless_ _>>_ _>>=_
+  value-line empty [] behind notNumbers e = absurd (silent e)
+  value-line true [] behind (numbers [] at) e = cc
+  value-line false [] behind (numbers [] at) e = refl
+  value-line empty [] behind (numbers (v ∷ ns) at) e =
+      let same : _≡_ {A = Said (List ℕ)} (record { what = v ∷ ns; rest = drop at file }) (record { what = []; rest = behind }) = cc in
+      let none : v ∷ ns ≡ [] = ap (λ (s : Said (List ℕ)). s .what) same in
+      let z : _≡_ {A = ℕ} 0 1 = cc in absurd (omega arith)
+  value-line true (b ∷ bs) behind x e = line-numbers file sort true x behind _ (values-some (sortKind sort) (b ∷ bs)) e
+  value-line false (b ∷ bs) behind x e = line-numbers file sort false x behind _ (values-some (sortKind sort) (b ∷ bs)) e
 
-    go : (o : Opened) → openAt key file at ≡ o → back y ≡ y → saidLine file (lineIn y f m empty file o) ≡ keyed key (ranged y f m empty) (drop at file)
-    go Missing p k = unfold lineIn saidLine in (sym (keyed-missing key (ranged y f m empty) file at p))
-    go (At c) p k =
-        let t = keyed-at key (ranged y f m empty) file at c p in
-        unfold lineIn in (value-said file (drop (c .at) file) y f m empty (c .at) (t .line) k refl (t .ends) ∙ sym (t .is))
+  same-kind : (sort : Sort) → back (sortKind sort) ≡ sortKind sort
+  unfolding sortKind
+  same-kind (Numbers f m) = refl
+  same-kind (Tokens s) = refl
+
+  opened-said : (r : Row) (at : ℕ) (o : Opened) → openAt (keyOf r) file at ≡ o
+      → saidLine file (lineIn sort (r .empty) file o) ≡ keyed (keyOf r) (ranged sort (r .empty)) (drop at file)
+  unfolding lineIn saidLine
+  opened-said r at Missing p = sym (keyed-missing (keyOf r) (ranged sort (r .empty)) file at p)
+  opened-said r at (At c) p =
+      let t = keyed-at (keyOf r) (ranged sort (r .empty)) file at c p in
+      let v = value-found file (drop c file) (sortKind sort) c (t .line) (same-kind sort) refl (t .ends) in
+      value-line (r .empty) (t .line .what) (t .line .rest) _ v ∙ sym (t .is)
+
+  -- A line of entries, each within its limit.
+  pub line-said : (r : Row) (at : ℕ) → saidLine file (entryLine sort r file at) ≡ keyed (keyOf r) (ranged sort (r .empty)) (drop at file)
+  line-said r at = opened-said r at (openAt (keyOf r) file at) refl
 
 -- Numbers are paper's numbers.
 coded-zero : (j : Checked ℕ) → (j >>= (λ n. says (code 0 n))) ≡ j
@@ -191,10 +206,6 @@ unfolding valuesOf numbersOf
 values-numbersOf false value = values-numbers value
 values-numbersOf true [] = refl
 values-numbersOf true (b ∷ bs) = values-numbers (b ∷ bs)
-
-pub values-some : (y : ℕ) (value : List ℕ) → values y value ≡ says [] → ⊥
-unfolding values
-values-some y value h = each-some (readOn y 0 0) value h
 
 -- A further check of a line.
 unfoldable pub checking : (List ℕ → ℕ) → List ℕ → Checked (List ℕ)
@@ -233,30 +244,9 @@ said-checked file k (good ns at) = elim (decided (eqb (k ns) 0)) [
   | inr p ↦ rw (p, checked, checking)
 ]
 
-pub checked-said : (file key : List ℕ) (y f m : ℕ) (empty : Bool) (k : List ℕ → ℕ) (at : ℕ) → y ≤ 1
-    → saidLine file (checked k (entryLine y key f m empty file at)) ≡ keyed key (λ value. ranged y f m empty value >>= checking k) (drop at file)
-checked-said file key y f m empty k at h =
-    said-checked file k _ ∙ ap (λ (j : Checked (Said (List ℕ))). j >>= onward (checking k)) (line-said file key y f m empty at h)
-    ∙ judge-more key (ranged y f m empty) (checking k) (drop at file)
-
--- A line judged in another way that comes to the same.
-pub keyed-same : {X : Type 0} (key : List ℕ) (f g : List ℕ → Checked X) → ((value : List ℕ) → f value ≡ g value) → (bs : List ℕ) → keyed key f bs ≡ keyed key g bs
-keyed-same key f g h bs = λ i. keyed key (λ value. h value i) bs
-
--- The value alone, before any further test.
-pub value-found : (file s : List ℕ) (y at : ℕ) (l : (Said (List ℕ))) → back y ≡ y → drop at file ≡ s → ended s ≡ says l → saidValue file (valueOf y at s) ≡ found (l .rest) (valuesOf y true (l .what))
-unfolding ended
-value-found file [] y at l k d e = absurd (silent e)
-value-found file (b ∷ s) y at l k d e = elim (decided (eqb b 10)) [
-  | inl h ↦
-      let g = rw (h, ended) at e in
-      let same : record { what = []; rest = s } ≡ l = cc in
-      rw (← same) (unfold valueOf saidValue valuesOf found _>>=_ in (rw (h, valueOf) (rw (next-rest file at b s d))))
-  | inr h ↦
-      let (p, q, g) = parts (ended s) _ (rw (h, ended) at e) in
-      let same : record { what = b ∷ p .what; rest = p .rest } ≡ l = cc in
-      let i = entries-sound (b ∷ p .what) in
-      let u = rw (← same) at (entries-said file (b ∷ s) y 0 0 at l d e) in
-      let w = rw (k, headed-each (readOn y 0 0) (entries (b ∷ p .what)) (i .first) (i .others) (i .are)) at u in
-      rw (← same) (unfold valueOf valuesOf values in (rw (h, valueOf) w))
-]
+pub checked-said : (file : List ℕ) (sort : Sort) (r : Row) (k : List ℕ → ℕ) (at : ℕ)
+    → saidLine file (checked k (entryLine sort r file at)) ≡ keyed (keyOf r) (λ value. ranged sort (r .empty) value >>= checking k) (drop at file)
+checked-said file sort r k at =
+    said-checked file k _
+    ∙ ap (λ (j : Checked (Said (List ℕ))). j >>= onward (checking k)) (line-said file sort r at)
+    ∙ judge-more (keyOf r) (ranged sort (r .empty)) (checking k) (drop at file)

@@ -60,7 +60,9 @@ more-digits y n v (b ∷ e) h z = elim (decided (isDigit b)) [
         more-step y (suc n) v b e d (full-not n v f z)
         ∙ ap (λ k. readOn y k (v * 10 + (b - 48)) e) p
         ∙ ih
-        ∙ rw (same-digit b, d) (ap (λ k. 4 unless (all e digit && leb k 8) >> says (code y (fromDigits (v * 10 + (b - 48)) e))) q ∙ ap (λ k. 4 unless (all e digit && leb (suc n + suc (length e)) 8) >> says (code y (fromDigits k e))) r)
+        ∙ rw (same-digit b, d)
+        (ap (λ k. 4 unless (all e digit && leb k 8) >> says (code y (fromDigits (v * 10 + (b - 48)) e))) q
+        ∙ ap (λ k. 4 unless (all e digit && leb (suc n + suc (length e)) 8) >> says (code y (fromDigits k e))) r)
   ]
 ]
 

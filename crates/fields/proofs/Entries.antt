@@ -199,13 +199,16 @@ module _ (file : List ℕ) (y n v at b : ℕ) (s : List ℕ) where
           | inl f ↦ said-none (m .rest) (b ∷ i .first) (i .others) _ (step-full y n v at b s d f) q (on-full y n v b (i .first) d f)
           | inr f ↦
               let ih2 = rw (i .are) at (ih y (n + 1) (v * 10 + (b - 48))) in
-              rw (step-digit y n v at b s d f, q) (ih2 ∙ ap (found (m .rest)) (longer (readOn y (n + 1) (v * 10 + (b - 48))) (readOn y n v) (readOn (back y) 0 0) b (i .first) (i .others) (on-digit y n v b (i .first) d f)))
+              rw (step-digit y n v at b s d f, q)
+              (ih2 ∙ ap (found (m .rest))
+              (longer (readOn y (n + 1) (v * 10 + (b - 48))) (readOn y n v) (readOn (back y) 0 0) b (i .first) (i .others) (on-digit y n v b (i .first) d f)))
         ]
         | inr d ↦ elim (decided (eqb n 0)) [
           | inl z ↦ elim (decided (eqb y 1 && eqb b 120)) [
             | inl x ↦
                 let ih2 = rw (i .are) at (ih 2 0 0) in
-                rw (step-x y n v at b s d z x, q, both-x y (eqb b 120) x) (ih2 ∙ ap (found (m .rest)) (longer (readOn 2 0 0) (readOn y n v) (readOn 1 0 0) b (i .first) (i .others) (on-x y n v b (i .first) d z x)))
+                rw (step-x y n v at b s d z x, q, both-x y (eqb b 120) x)
+                (ih2 ∙ ap (found (m .rest)) (longer (readOn 2 0 0) (readOn y n v) (readOn 1 0 0) b (i .first) (i .others) (on-x y n v b (i .first) d z x)))
             | inr x ↦ said-none (m .rest) (b ∷ i .first) (i .others) _ (step-none y n v at b s d z x) q (on-none y n v b (i .first) d z x)
           ]
           | inr z ↦ said-none (m .rest) (b ∷ i .first) (i .others) _ (step-other y n v at b s d z h c) q (on-other y n v b (i .first) d z)
@@ -225,7 +228,8 @@ entries-said file (b ∷ s) y n v at l d e = elim (decided (eqb b 10)) [
   | inr h ↦
       let (m, p, g) = parts (ended s) _ (rw (h, ended) at e) in
       let same : record { what = b ∷ m .what; rest = m .rest } ≡ l = cc in
-      let ih : (y n v : ℕ) → saidValue file (entriesFrom y n v (at + 1) s) ≡ found (m .rest) (headed (readOn y n v) (readOn (back y) 0 0) (entries (m .what))) = λ y n v. entries-said file s y n v (at + 1) m (next-rest file at b s d) p in
+      let ih : (y n v : ℕ) → saidValue file (entriesFrom y n v (at + 1) s) ≡ found (m .rest) (headed (readOn y n v) (readOn (back y) 0 0) (entries (m .what))) =
+      λ y n v. entries-said file s y n v (at + 1) m (next-rest file at b s d) p in
       rw (← same) (elim (decided (eqb b 44)) [
         | inl c ↦ at-comma file y n v at b s m h c (ih (back y) 0 0)
         | inr c ↦ inside file y n v at b s m h c ih

@@ -1,7 +1,7 @@
 -- Each line's tests as the code makes them come to paper's judgement of the value.
 use mathlib.Core.Path.{_≡_, refl, sym, ap, _∙_}
 use mathlib.Core.Bool.{Bool, true, false, _&&_, _||_, not, and-eq-true-iff, false≢true}
-use mathlib.Core.Logic.{_⊎_, inl, inr}
+use mathlib.Core.Logic.{inl, inr}
 use mathlib.Core.List.{List, [], _∷_, dropLast}
 use Prim.Native.Nat.{ℕ, suc, _+_, _-_, _≤_, _<_, max}
 use native.Mathlib.Omega.{arith}
@@ -11,11 +11,14 @@ use lib.ListN.{length, take, getD}
 use lib.Seq.{getD-take}
 use Rattle.theory.specs.Automaton.{_of_gives_}
 use Rattle.paper.specs.Checked.{Checked, fault, says, _>>=_, _>>_, _unless_}
-use Rattle.paper.specs.Fields.{all, each, entries, number, isNumber}
+use Rattle.paper.specs.Fields.{all, each}
 use Rattle.paper.specs.Certificate.{Kind, row, Arities, Merge}
-use Rattle.paper.specs.Tables.{numbers as paperNumbers, numbersOf, within, singleNumber, numberList, arityList, ascending as paperAscending, finalList, lastOf, transitionOf, fromNumbers, transition, numbered as paperNumbered, classList}
+use Rattle.paper.specs.Tables.{within, numberList, arityList, ascending as paperAscending, finalList, lastOf, transitionOf, fromNumbers, transition, numbered as paperNumbered, classList}
 use Rattle.paper.proofs.Smallest.{decided}
-use Rattle.fields.specs.Listed.{anyOver, beyond, above, ascending}
+use Rattle.fields.specs.declared.cursor.Sort.{Sort}
+use Rattle.fields.specs.declared.cursor.Sort.the-variants.{Numbers}
+use Rattle.fields.specs.Value.{sortKind}
+use Rattle.fields.specs.Listed.{exceeds, anyOver, beyond, above, ascending}
 use Rattle.fields.specs.Lines.{finalCheck, fewCheck}
 use Rattle.fields.specs.Merge.{bump, numbered, mergeCheck}
 use Rattle.fields.specs.Said.{moved}
@@ -23,21 +26,8 @@ use Rattle.fields.specs.Trans.{argIn, transOf, transCheck}
 use Rattle.fields.proofs.LinesLaws.{few-ok, few-not, final-ok, final-not}
 use Rattle.fields.proofs.TransLaws.{trans-ok, trans-not}
 use Rattle.fields.proofs.MergeLaws.{merge-count, merge-ok, merge-not}
+use Rattle.fields.proofs.Steps.{bind-same, bind-said, bind-bind}
 use Rattle.fields.proofs.Bridge.{values, valuesOf, inRange, ranged, checking, values-numbers, values-numbersOf, values-some}
-
--- Steps that come to the same.
-pub bind-same : {X Y : Type 0} (j : Checked X) (f g : X → Checked Y) → ((x : X) → f x ≡ g x) → (j >>= f) ≡ (j >>= g)
-bind-same j f g h = λ i. j >>= (λ x. h x i)
-
-pub bind-said : {X Y : Type 0} (j : Checked X) (f g : X → Checked Y) → ((x : X) → j ≡ says x → f x ≡ g x) → (j >>= f) ≡ (j >>= g)
-unfolding _>>=_
-bind-said (fault n) f g h = refl
-bind-said (says x) f g h = h x refl
-
-pub bind-bind : {X Y Z : Type 0} (j : Checked X) (f : X → Checked Y) (g : Y → Checked Z) → ((j >>= f) >>= g) ≡ (j >>= (λ x. f x >>= g))
-unfolding _>>=_
-bind-bind (fault n) f g = refl
-bind-bind (says x) f g = refl
 
 -- Ranges.
 flip : (m n : ℕ) → not (ltb m n) ≡ leb n m
@@ -50,25 +40,32 @@ not-or : (a b : Bool) → not (a || b) ≡ (not a && not b)
 not-or true b = refl
 not-or false b = refl
 
-none-over : (test : ℕ → Bool) (m : ℕ) → ((n : ℕ) → test n ≡ leb n m) → (ns : List ℕ) → all ns test ≡ not (anyOver m ns)
-unfolding all anyOver
-none-over test m h [] = refl
-none-over test m h (n ∷ ns) = sym (not-or (ltb m n) (anyOver m ns) ∙ rw (flip m n, ← h n, ← none-over test m h ns))
+-- A test that says for each entry whether it is within its limit.
+module _ (sort : Sort) (test : ℕ → Bool) where
+  none-over : ((n : ℕ) → test n ≡ not (exceeds sort false n)) → (ns : List ℕ) → all ns test ≡ not (anyOver sort ns)
+  unfolding all anyOver
+  none-over h [] = refl
+  none-over h (n ∷ ns) = sym (not-or (exceeds sort false n) (anyOver sort ns) ∙ rw (← h n, ← none-over h ns))
 
-pub none-beyond : (test : ℕ → Bool) (m : ℕ) → ((n : ℕ) → test n ≡ leb n m) → (ns : List ℕ) → all ns test ≡ not (beyond m m ns)
-unfolding beyond all
-none-beyond test m h [] = refl
-none-beyond test m h (n ∷ ns) = none-over test m h (n ∷ ns) ∙ (unfold anyOver in refl)
+  pub none-beyond : ((begins : Bool) (n : ℕ) → test n ≡ not (exceeds sort begins n)) → (ns : List ℕ) → all ns test ≡ not (beyond sort ns)
+  unfolding all beyond
+  none-beyond h [] = refl
+  none-beyond h (n ∷ ns) = sym (not-or (exceeds sort true n) (anyOver sort ns) ∙ rw (← h true n, ← none-over (h false) ns))
+
+most-test : (test : ℕ → Bool) (m : ℕ) → ((n : ℕ) → test n ≡ leb n m) → (begins : Bool) (n : ℕ) → test n ≡ not (exceeds (Numbers m m) begins n)
+unfolding exceeds
+most-test test m h true n = h n ∙ sym (flip m n)
+most-test test m h false n = h n ∙ sym (flip m n)
 
 within-zero : (K : Kind) (n : ℕ) → row K .least ≡ 0 → within K n ≡ leb n (row K .greatest)
 unfolding within
 within-zero K n h = rw (h, le-leb 0 n (omega arith))
 
-pub list-judge : (K : Kind) (value : List ℕ) → row K .least ≡ 0 → numberList K value ≡ ranged 0 (row K .greatest) (row K .greatest) (row K .empty) value
-unfolding numberList ranged inRange
+pub list-judge : (K : Kind) (value : List ℕ) → row K .least ≡ 0 → numberList K value ≡ ranged (Numbers (row K .greatest) (row K .greatest)) (row K .empty) value
+unfolding numberList ranged inRange sortKind
 list-judge K value h =
     rw (← values-numbersOf (row K .empty) value)
-    (bind-same (valuesOf 0 (row K .empty) value) _ _ (λ ns. ap (λ b. 5 unless b >> says ns) (none-beyond (within K) (row K .greatest) (λ n. within-zero K n h) ns)))
+    (bind-same (valuesOf 0 (row K .empty) value) _ _ (λ ns. ap (λ b. 5 unless b >> says ns) (none-beyond _ (within K) (most-test (within K) (row K .greatest) (λ n. within-zero K n h)) ns)))
 
 -- A check that passes or fails.
 module _ (k : List ℕ → ℕ) (ns : List ℕ) where
@@ -80,9 +77,9 @@ module _ (k : List ℕ → ℕ) (ns : List ℕ) where
   unfolding checking
   check-fails r h = rw (ne-eqb (k ns) 0 (λ e. omega arith), checking) (ap fault h)
 
-pub arities-judge : (value : List ℕ) → (ranged 0 3 3 false value >>= checking (fewCheck 64)) ≡ arityList value
+pub arities-judge : (value : List ℕ) → (ranged (Numbers 3 3) false value >>= checking (fewCheck 64)) ≡ arityList value
 unfolding arityList row
-arities-judge value = rw (list-judge Arities value refl) (bind-same (ranged 0 3 3 false value) _ _ count)
+arities-judge value = rw (list-judge Arities value refl) (bind-same (ranged (Numbers 3 3) false value) _ _ count)
   where
     count : (ns : List ℕ) → checking (fewCheck 64) ns ≡ (6 unless leb (length ns) 64 >> says ns)
     count ns = elim (decided (leb (length ns) 64)) [
@@ -95,11 +92,8 @@ same-bump : (k c : ℕ) → c ≤ k → bump k c ≡ max k (suc c)
 unfolding bump
 same-bump k c h = elim (decided (eqb c k)) [
   | inl p ↦ rw (p, bump) (omega (arith, eqb-true c k p))
-  | inr p ↦ let d = eqb-false c k p in rw (p, bump) (elim (lt-or k c h d) [ inl q ↦ omega (arith, q) | inr q ↦ omega (arith, q) ])
+  | inr p ↦ let d : c < k = omega (arith, eqb-false c k p) in rw (p, bump) (omega arith)
 ]
-  where
-    lt-or : (k c : ℕ) → c ≤ k → (c ≡ k → ⊥) → (c < k) ⊎ (c < k)
-    lt-or k c h d = inl (omega (arith, d))
 
 same-numbered : (k : ℕ) (cs : List ℕ) → numbered k cs ≡ paperNumbered k cs
 unfolding numbered paperNumbered
@@ -109,9 +103,9 @@ same-numbered k (c ∷ cs) = elim (decided (leb c k)) [
   | inr p ↦ rw (p, lt-ltb k c (leb-false c k p), numbered)
 ]
 
-pub merge-judge : (n : ℕ) (value : List ℕ) → (ranged 0 31 31 false value >>= checking (mergeCheck n)) ≡ classList n value
+pub merge-judge : (n : ℕ) (value : List ℕ) → (ranged (Numbers 31 31) false value >>= checking (mergeCheck n)) ≡ classList n value
 unfolding classList row
-merge-judge n value = rw (list-judge Merge value refl) (bind-same (ranged 0 31 31 false value) _ _ test)
+merge-judge n value = rw (list-judge Merge value refl) (bind-same (ranged (Numbers 31 31) false value) _ _ test)
   where
     test : (cs : List ℕ) → checking (mergeCheck n) cs ≡ (6 unless eqb (length cs) n >> (11 unless paperNumbered 0 cs >> says cs))
     test cs = elim (decided (eqb (length cs) n)) [
@@ -163,34 +157,17 @@ final-test ns t true false true e h k = rw e
 final-test ns t false false true e h k = refl
 final-test ns t a false false e h k = absurd (false≢true (sym e ∙ k))
 
-pub final-judge : (K : Kind) (n : ℕ) (value : List ℕ) → row K .least ≡ 0 → row K .empty ≡ true → 1 ≤ n → n ≤ suc (row K .greatest)
-    → (ranged 0 (n - 1) (n - 1) true value >>= checking finalCheck) ≡ finalList K n value
-unfolding finalList numberList ranged inRange
-final-judge K n value z e l g =
-    rw (e, ← values-numbersOf true value)
-    (bind-bind (valuesOf 0 true value) (inRange (n - 1) (n - 1)) (checking finalCheck)
-    ∙ bind-same (valuesOf 0 true value) _ _ (λ ns. final-test ns (λ qs. all qs (λ q. ltb q n)) (all ns (within K)) (all ns (λ q. ltb q n)) (beyond (n - 1) (n - 1) ns) refl (below-all n K z g ns) (none-beyond (λ q. ltb q n) (n - 1) (λ q. below-flip n q l) ns))
-    ∙ sym (bind-bind (valuesOf 0 true value) (λ ns. 5 unless all ns (within K) >> says ns) (λ qs. 5 unless all qs (λ q. ltb q n) >> (7 unless paperAscending 0 qs >> says qs))))
-
--- A line of one number.
-unfoldable pub oneOf : Kind → List ℕ → Checked ℕ
-oneOf K ns = 4 unless eqb (length ns) 1 >> (5 unless all ns (within K) >> says (getD ns 0 0))
-
--- no value is not one number, whether the row allows it or not
-none-judge : (e : Bool) (K : Kind) → (valuesOf 0 true [] >>= oneOf K) ≡ (numbersOf e [] >>= oneOf K)
-unfolding valuesOf numbersOf paperNumbers each entries number isNumber oneOf _unless_ _>>_ _>>=_
-none-judge true K = refl
-none-judge false K = refl
-
-some-judge : (e : Bool) (b : ℕ) (bs : List ℕ) → valuesOf 0 true (b ∷ bs) ≡ numbersOf e (b ∷ bs)
-unfolding numbersOf
-some-judge true b bs = values-numbersOf true (b ∷ bs)
-some-judge false b bs = values-numbersOf true (b ∷ bs)
-
-pub one-judge : (K : Kind) (value : List ℕ) → (valuesOf 0 true value >>= oneOf K) ≡ singleNumber K value
-unfolding singleNumber oneOf
-one-judge K [] = none-judge (row K .empty) K
-one-judge K (b ∷ bs) = ap (λ (j : Checked (List ℕ)). j >>= oneOf K) (some-judge (row K .empty) b bs)
+pub final-judge : (K : Kind) (n : ℕ) (value : List ℕ) → row K .least ≡ 0 → 1 ≤ n → n ≤ suc (row K .greatest)
+    → (ranged (Numbers (n - 1) (n - 1)) (row K .empty) value >>= checking finalCheck) ≡ finalList K n value
+unfolding finalList numberList ranged inRange sortKind
+final-judge K n value z l g =
+    rw (← values-numbersOf (row K .empty) value)
+    (bind-bind (valuesOf 0 (row K .empty) value) (inRange (Numbers (n - 1) (n - 1))) (checking finalCheck)
+    ∙ bind-same (valuesOf 0 (row K .empty) value) _ _
+    (λ ns. final-test ns (λ qs. all qs (λ q. ltb q n)) (all ns (within K)) (all ns (λ q. ltb q n)) (beyond (Numbers (n - 1) (n - 1)) ns) refl
+    (below-all n K z g ns) (none-beyond _ (λ q. ltb q n) (most-test (λ q. ltb q n) (n - 1) (λ q. below-flip n q l)) ns))
+    ∙ sym (bind-bind (valuesOf 0 (row K .empty) value) (λ ns. 5 unless all ns (within K) >> says ns)
+    (λ qs. 5 unless all qs (λ q. ltb q n) >> (7 unless paperAscending 0 qs >> says qs))))
 
 -- A transition's line.
 shape : (arities : List ℕ) (f : ℕ) (qs : List ℕ) → length qs ≡ getD arities f 0 + 1 → getD arities f 0 ≤ 3 → moved arities (transOf (f ∷ qs)) ≡ (f of dropLast qs gives lastOf qs)
@@ -203,9 +180,14 @@ shape arities f (q ∷ r ∷ s ∷ t ∷ []) e h = let p : getD arities f 0 ≡ 
 shape arities f (q ∷ r ∷ s ∷ t ∷ u ∷ qs) e h = absurd (omega arith)
 
 module _ (arities : List ℕ) (S n : ℕ) (few : length (take S arities) ≡ S) (low : (k : ℕ) → getD arities k 0 ≤ 3) (one-symbol : 1 ≤ S) (one-state : 1 ≤ n) where
-  trans-range : (f : ℕ) (qs : List ℕ) → not (beyond (S - 1) (n - 1) (f ∷ qs)) ≡ (ltb f (length (take S arities)) && all qs (λ q. ltb q n))
-  unfolding beyond
-  trans-range f qs = not-or (ltb (S - 1) f) (anyOver (n - 1) qs) ∙ rw (few, flip (S - 1) f, ← below-flip S f one-symbol, ← none-over (λ q. ltb q n) (n - 1) (λ q. below-flip n q one-state) qs)
+  sort : Sort
+  sort = Numbers (S - 1) (n - 1)
+
+  trans-range : (f : ℕ) (qs : List ℕ) → not (beyond sort (f ∷ qs)) ≡ (ltb f (length (take S arities)) && all qs (λ q. ltb q n))
+  unfolding beyond exceeds sort
+  trans-range f qs =
+      not-or (ltb (S - 1) f) (anyOver sort qs)
+      ∙ rw (few, flip (S - 1) f, ← below-flip S f one-symbol, ← none-over sort (λ q. ltb q n) (λ q. below-flip n q one-state ∙ sym (flip (n - 1) q)) qs)
 
   trans-test : (f : ℕ) (qs : List ℕ) → ltb f (length (take S arities)) ≡ true
       → (checking (transCheck arities) (f ∷ qs) >>= (λ ns. says (moved arities (transOf ns)))) ≡ (6 unless eqb (length qs) (getD (take S arities) f 0 + 1) >> says (f of dropLast qs gives lastOf qs))
@@ -222,20 +204,24 @@ module _ (arities : List ℕ) (S n : ℕ) (few : length (take S arities) ≡ S) 
             rw (arity, p, check-fails (transCheck arities) (f ∷ qs) 5 (trans-not arities (f ∷ qs) (λ e. count (omega arith))))
       ]
 
-  trans-line : (ns : List ℕ) → (ns ≡ [] → ⊥) → ((inRange (S - 1) (n - 1) ns >>= checking (transCheck arities)) >>= (λ ns. says (moved arities (transOf ns)))) ≡ fromNumbers (take S arities) n ns
+  trans-line : (ns : List ℕ) → (ns ≡ [] → ⊥)
+      → ((inRange sort ns >>= checking (transCheck arities)) >>= (λ ns. says (moved arities (transOf ns)))) ≡ fromNumbers (take S arities) n ns
   trans-line [] h = absurd (h refl)
-  trans-line (f ∷ qs) h = unfold fromNumbers transitionOf inRange in (rw (trans-range f qs) (go (ltb f (length (take S arities))) (all qs (λ q. ltb q n)) refl))
+  trans-line (f ∷ qs) h =
+      unfold fromNumbers transitionOf inRange in (rw (trans-range f qs) (go (ltb f (length (take S arities))) (all qs (λ q. ltb q n)) refl))
     where
       go : (a b : Bool) → ltb f (length (take S arities)) ≡ a
-          → (((5 unless (a && b) >> says (f ∷ qs)) >>= checking (transCheck arities)) >>= (λ ns. says (moved arities (transOf ns)))) ≡ (5 unless (a && b) >> (6 unless eqb (length qs) (getD (take S arities) f 0 + 1) >> says (f of dropLast qs gives lastOf qs)))
+          → (((5 unless (a && b) >> says (f ∷ qs)) >>= checking (transCheck arities)) >>= (λ ns. says (moved arities (transOf ns))))
+          ≡ (5 unless (a && b) >> (6 unless eqb (length qs) (getD (take S arities) f 0 + 1) >> says (f of dropLast qs gives lastOf qs)))
       go true true e = unfold _unless_ _>>_ _>>=_ in (trans-test f qs e)
       go true false e = unfold _unless_ _>>_ _>>=_ in refl
       go false b e = unfold _unless_ _>>_ _>>=_ in refl
 
-  pub trans-judge : (value : List ℕ) → ((ranged 0 (S - 1) (n - 1) false value >>= checking (transCheck arities)) >>= (λ ns. says (moved arities (transOf ns)))) ≡ transition (take S arities) n value
-  unfolding transition ranged valuesOf
+  pub trans-judge : (value : List ℕ)
+      → ((ranged (Numbers (S - 1) (n - 1)) false value >>= checking (transCheck arities)) >>= (λ ns. says (moved arities (transOf ns)))) ≡ transition (take S arities) n value
+  unfolding transition ranged valuesOf sortKind sort
   trans-judge value =
-      ap (λ (j : Checked (List ℕ)). j >>= (λ ns. says (moved arities (transOf ns)))) (bind-bind (values 0 value) (inRange (S - 1) (n - 1)) (checking (transCheck arities)))
-      ∙ bind-bind (values 0 value) (λ ns. inRange (S - 1) (n - 1) ns >>= checking (transCheck arities)) (λ ns. says (moved arities (transOf ns)))
+      ap (λ (j : Checked (List ℕ)). j >>= (λ ns. says (moved arities (transOf ns)))) (bind-bind (values 0 value) (inRange sort) (checking (transCheck arities)))
+      ∙ bind-bind (values 0 value) (λ ns. inRange sort ns >>= checking (transCheck arities)) (λ ns. says (moved arities (transOf ns)))
       ∙ bind-said (values 0 value) _ _ (λ ns e. trans-line ns (λ z. values-some 0 value (e ∙ ap says z)))
       ∙ ap (λ (j : Checked (List ℕ)). j >>= fromNumbers (take S arities) n) (values-numbers value)

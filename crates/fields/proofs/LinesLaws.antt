@@ -1,120 +1,137 @@
 -- A whole list line, from what the code finds: what `list` hands over, made a line's; and a further check of a line.
--- Assumes nothing.
 use mathlib.Core.Path.{_≡_, refl, sym, ap, _∙_}
 use mathlib.Core.Bool.{Bool, true, false}
+use mathlib.Core.Logic.{inl, inr}
 use mathlib.Core.List.{List, [], _∷_}
-use Prim.Native.Nat.{ℕ, suc, _≤_, _<_}
+use Prim.Native.Nat.{ℕ, suc, _+_, _≤_, _<_}
 use native.Mathlib.Omega.{arith}
 use borrow.Author.Tests.{le-leb, lt-leb, ne-eqb}
 use lib.ListN.{length, drop, replicate}
+use Rattle.paper.specs.Certificate.{Row}
+use Rattle.paper.proofs.Smallest.{decided}
 use Rattle.fields.specs.declared.cursor.Cursor.{Cursor}
+use Rattle.fields.specs.declared.cursor.Sort.{Sort}
 use Rattle.fields.specs.declared.lists.Items.{Items}
 use Rattle.fields.specs.declared.lists.Listed.the-variants.{Got, Refused}
 use Rattle.fields.specs.declared.cursor.Opened.the-variants.{At, Missing}
-use Rattle.fields.specs.Value.{Value, numbers, notNumbers, valueOf}
-use Rattle.fields.specs.Line.{openAt}
+use Rattle.fields.specs.Value.{Value, numbers, notNumbers, valueOf, sortKind}
+use Rattle.fields.specs.Line.{afterKey, hasEnd, unended, keyOf}
 use Rattle.fields.specs.Listed.{refusedItems, beyond, ascending, laid, listOf}
 use Rattle.fields.specs.Lines.{Line, good, bad, numbersIn, lineIn, entryLine, checked, finalCheck, fewCheck, itemsOf}
+use Rattle.fields.proofs.LineLaws.{open-no-key, open-no-end, open-at}
+use Rattle.fields.proofs.ValueLaws.{value-endless}
 
-module _ (f m : ℕ) where
-  -- numbers that are there
-  some-numbers : (e : Bool) (v : ℕ) (ns : List ℕ) (at : ℕ) → listOf f m (numbers (v ∷ ns) at) ≡ itemsOf (numbersIn f m e (numbers (v ∷ ns) at))
+-- What is handed over for a value at the front of s: where it is no entries, 3 or 4 by whether an LF follows.
+valued : (line : ℕ) → Sort → Bool → List ℕ → Value → Items
+valued line sort empty s notNumbers = refusedItems (unended 4 s)
+valued line sort empty s (numbers ns at) = itemsOf line (numbersIn sort empty (numbers ns at))
+
+module _ (line : ℕ) (sort : Sort) (empty : Bool) (s : List ℕ) where
+  valued-ended : (x : Value) → hasEnd s ≡ true → itemsOf line (numbersIn sort empty x) ≡ valued line sort empty s x
+  unfolding valued unended numbersIn itemsOf
+  valued-ended notNumbers h = rw (h, unended)
+  valued-ended (numbers ns at) h = refl
+
+  -- what the code does with what `list` answers
+  some-numbers : (v : ℕ) (ns : List ℕ) (at : ℕ) → listOf line sort (numbers (v ∷ ns) at) ≡ itemsOf line (numbersIn sort empty (numbers (v ∷ ns) at))
   unfolding listOf numbersIn itemsOf
-  some-numbers e v ns at = go (beyond f m (v ∷ ns)) refl
-    where
-      go : (t : Bool) → beyond f m (v ∷ ns) ≡ t → listOf f m (numbers (v ∷ ns) at) ≡ itemsOf (numbersIn f m e (numbers (v ∷ ns) at))
-      go true p = rw (p, listOf, numbersIn)
-      go false p = rw (p, listOf, numbersIn)
+  some-numbers v ns at = elim (decided (beyond sort (v ∷ ns))) [
+    | inl p ↦ rw (p, listOf, numbersIn)
+    | inr p ↦ rw (p, listOf, numbersIn)
+  ]
 
-  if-allowed : (x : Value) → listOf f m x ≡ itemsOf (numbersIn f m true x)
-  unfolding listOf numbersIn itemsOf beyond
-  if-allowed notNumbers = refl
-  if-allowed (numbers [] at) = refl
-  if-allowed (numbers (v ∷ ns) at) = some-numbers true v ns at
+  valued-refused : (x : Value) (k : ℕ) → listOf line sort x .answer ≡ Refused k → refusedItems (unended k s) ≡ valued line sort empty s x
+  unfolding valued listOf refusedItems beyond numbersIn itemsOf unended
+  valued-refused notNumbers k e = let q : k ≡ 4 = cc in rw q
+  valued-refused (numbers [] at) k e = let z : _≡_ {A = ℕ} 0 1 = cc in absurd (omega arith)
+  valued-refused (numbers (v ∷ ns) at) k e = elim (decided (beyond sort (v ∷ ns))) [
+    | inl p ↦
+        let w : Refused 5 ≡ Refused k = rw (p, listOf) at e in
+        let q : k ≡ 5 = cc in
+        rw (q, p, numbersIn)
+    | inr p ↦
+        let w : Got (suc (length ns)) (ascending (v ∷ ns)) (record { at = at; line = line + 1 }) ≡ Refused k = rw (p, listOf) at e in
+        let z : _≡_ {A = ℕ} 0 1 = cc in absurd (omega arith)
+  ]
 
-  if-refused : (x : Value) (k : ℕ) → listOf f m x .answer ≡ Refused k → listOf f m x ≡ itemsOf (numbersIn f m false x)
-  unfolding listOf numbersIn itemsOf beyond
-  if-refused notNumbers k e = refl
-  if-refused (numbers [] at) k e = let z : _≡_ {A = ℕ} 0 1 = cc in absurd (omega arith)
-  if-refused (numbers (v ∷ ns) at) k e = some-numbers false v ns at
+  valued-got : (x : Value) (n : ℕ) (a : Bool) (c : Cursor) → listOf line sort x .answer ≡ Got n a c → (n ≤ 0 → empty ≡ true) → listOf line sort x ≡ valued line sort empty s x
+  unfolding valued listOf refusedItems beyond numbersIn itemsOf unended
+  valued-got notNumbers n a c e h = let z : _≡_ {A = ℕ} 0 1 = cc in absurd (omega arith)
+  valued-got (numbers [] at) n a c e h = let q : n ≡ 0 = cc in rw (h (omega arith), numbersIn)
+  valued-got (numbers (v ∷ ns) at) n a c e h = some-numbers v ns at
 
-  if-some : (x : Value) (n : ℕ) (a : Bool) (c : Cursor) → listOf f m x .answer ≡ Got n a c → (n ≡ 0 → ⊥) → listOf f m x ≡ itemsOf (numbersIn f m false x)
-  unfolding listOf numbersIn itemsOf beyond
-  if-some notNumbers n a c e h = refl
-  if-some (numbers [] at) n a c e h = let z : _≡_ {A = ℕ} n 0 = cc in absurd (h z)
-  if-some (numbers (v ∷ ns) at) n a c e h = some-numbers false v ns at
-
-  if-none : (x : Value) (n : ℕ) (a : Bool) (c : Cursor) → listOf f m x .answer ≡ Got n a c → n ≡ 0 → itemsOf (numbersIn f m false x) ≡ refusedItems 4
-  unfolding numbersIn itemsOf
-  if-none notNumbers n a c e h = refl
-  if-none (numbers [] at) n a c e h = refl
-  if-none (numbers (v ∷ ns) at) n a c e h = go (beyond f m (v ∷ ns)) refl
-    where
-      go : (t : Bool) → beyond f m (v ∷ ns) ≡ t → itemsOf (numbersIn f m false (numbers (v ∷ ns) at)) ≡ refusedItems 4
-      go true p =
-          let w : Refused 5 ≡ Got n a c = unfold listOf refusedItems in (rw (p, listOf) at e) in
-          let z : _≡_ {A = ℕ} 0 1 = cc in absurd (omega arith)
-      go false p =
-          let w : Got (suc (length ns)) (ascending (v ∷ ns)) (record { at = at }) ≡ Got n a c = unfold listOf in (rw (p, listOf) at e) in
-          let z : _≡_ {A = ℕ} (suc (length ns)) n = cc in absurd (omega arith)
+  valued-none : (x : Value) (n : ℕ) (a : Bool) (c : Cursor) → listOf line sort x .answer ≡ Got n a c → n ≤ 0 → empty ≡ false → refusedItems 4 ≡ valued line sort empty s x
+  unfolding valued listOf refusedItems beyond numbersIn itemsOf unended
+  valued-none notNumbers n a c e h f = let z : _≡_ {A = ℕ} 0 1 = cc in absurd (omega arith)
+  valued-none (numbers [] at) n a c e h f = rw (f, numbersIn)
+  valued-none (numbers (v ∷ ns) at) n a c e h f = elim (decided (beyond sort (v ∷ ns))) [
+    | inl p ↦
+        let w : Refused 5 ≡ Got n a c = rw (p, listOf) at e in
+        let z : _≡_ {A = ℕ} 0 1 = cc in absurd (omega arith)
+    | inr p ↦
+        let w : Got (suc (length ns)) (ascending (v ∷ ns)) (record { at = at; line = line + 1 }) ≡ Got n a c = rw (p, listOf) at e in
+        let z : _≡_ {A = ℕ} (suc (length ns)) n = cc in absurd (omega arith)
+  ]
 
 -- the line, from the place of its value
-module _ (y : ℕ) (key : List ℕ) (f m : ℕ) (e : Bool) (file : List ℕ) (at : ℕ) where
-  pub line-missing : openAt key file at ≡ Missing → itemsOf (entryLine y key f m e file at) ≡ refusedItems 3
+module _ (line : ℕ) (sort : Sort) (r : Row) (file : List ℕ) (at : ℕ) where
+  pub line-missing : afterKey (keyOf r) at (drop at file) ≡ Missing → itemsOf line (entryLine sort r file at) ≡ refusedItems 3
   unfolding lineIn itemsOf
-  line-missing o = ap (λ (x : Rattle.fields.specs.declared.cursor.Opened.Opened). itemsOf (lineIn y f m e file x)) o
+  line-missing o = ap (λ x. itemsOf line (lineIn sort (r .empty) file x)) (open-no-key (keyOf r) file at o)
 
-  line-open : (c : Cursor) → openAt key file at ≡ At c → entryLine y key f m e file at ≡ numbersIn f m e (valueOf y (c .at) (drop (c .at) file))
-  unfolding lineIn
-  line-open c o = ap (lineIn y f m e file) o
+  module _ (from : ℕ) (o : afterKey (keyOf r) at (drop at file) ≡ At from) where
+    line-valued : itemsOf line (entryLine sort r file at) ≡ valued line sort (r .empty) (drop from file) (valueOf (sortKind sort) from (drop from file))
+    unfolding lineIn itemsOf valued unended
+    line-valued = elim (decided (hasEnd (drop from file))) [
+      | inl p ↦ ap (λ x. itemsOf line (lineIn sort (r .empty) file x)) (open-at (keyOf r) file at from o p) ∙ valued-ended line sort (r .empty) (drop from file) _ p
+      | inr p ↦ ap (λ x. itemsOf line (lineIn sort (r .empty) file x)) (open-no-end (keyOf r) file at from o p) ∙ rw (value-endless (drop from file) (sortKind sort) from p) (rw (p, unended))
+    ]
 
-module _ (y : ℕ) (key : List ℕ) (f m : ℕ) (file : List ℕ) (at : ℕ) (c : Cursor) (o : openAt key file at ≡ At c) (it : Items)
-    (h : it ≡ listOf f m (valueOf y (c .at) (drop (c .at) file))) where
-  pub line-allowed : (e : Bool) → e ≡ true → it ≡ itemsOf (entryLine y key f m e file at)
-  line-allowed e p = h ∙ if-allowed f m _ ∙ sym (ap itemsOf (line-open y key f m e file at c o ∙ rw p))
+    module _ (it : Items) (h : it ≡ listOf line sort (valueOf (sortKind sort) from (drop from file))) where
+      answer-is : it .answer ≡ listOf line sort (valueOf (sortKind sort) from (drop from file)) .answer
+      answer-is = ap (λ (x : Items). x .answer) h
 
-  pub line-refused : (e : Bool) → e ≡ false → (k : ℕ) → it .answer ≡ Refused k → it ≡ itemsOf (entryLine y key f m e file at)
-  line-refused e p k g =
-      h ∙ if-refused f m _ k (ap (λ (x : Items). x .answer) (sym h) ∙ g) ∙ sym (ap itemsOf (line-open y key f m e file at c o ∙ rw p))
+      pub line-refused : (k : ℕ) → it .answer ≡ Refused k → refusedItems (unended k (drop from file)) ≡ itemsOf line (entryLine sort r file at)
+      line-refused k g = valued-refused line sort (r .empty) (drop from file) _ k (sym answer-is ∙ g) ∙ sym line-valued
 
-  pub line-some : (e : Bool) → e ≡ false → (n : ℕ) (a : Bool) (d : Cursor) → it .answer ≡ Got n a d → (n ≡ 0 → ⊥) → it ≡ itemsOf (entryLine y key f m e file at)
-  line-some e p n a d g z =
-      h ∙ if-some f m _ n a d (ap (λ (x : Items). x .answer) (sym h) ∙ g) z ∙ sym (ap itemsOf (line-open y key f m e file at c o ∙ rw p))
+      pub line-got : (n : ℕ) (a : Bool) (c : Cursor) → it .answer ≡ Got n a c → (n ≤ 0 → r .empty ≡ true) → it ≡ itemsOf line (entryLine sort r file at)
+      line-got n a c g z = h ∙ valued-got line sort (r .empty) (drop from file) _ n a c (sym answer-is ∙ g) z ∙ sym line-valued
 
-  pub line-none : (e : Bool) → e ≡ false → (n : ℕ) (a : Bool) (d : Cursor) → it .answer ≡ Got n a d → n ≡ 0 → itemsOf (entryLine y key f m e file at) ≡ refusedItems 4
-  line-none e p n a d g z =
-      ap itemsOf (line-open y key f m e file at c o ∙ rw p) ∙ if-none f m _ n a d (ap (λ (x : Items). x .answer) (sym h) ∙ g) z
+      pub line-none : (n : ℕ) (a : Bool) (c : Cursor) → it .answer ≡ Got n a c → n ≤ 0 → r .empty ≡ false → refusedItems 4 ≡ itemsOf line (entryLine sort r file at)
+      line-none n a c g z f = valued-none line sort (r .empty) (drop from file) _ n a c (sym answer-is ∙ g) z f ∙ sym line-valued
 
--- A further check of a line, K, from what `itemsOf` of the line says.
-pub record GotLine (l : Line) (it : Items) (n : ℕ) (a : Bool) (d : Cursor) : Type 0 where
+-- A further check of a line, k, from what `itemsOf` of the line says.
+pub record GotLine (line : ℕ) (l : Line) (it : Items) (n : ℕ) (a : Bool) (d : Cursor) : Type 0 where
   pub ns : List ℕ
   pub is : l ≡ good ns (d .at)
   pub count : n ≡ length ns
   pub order : a ≡ ascending ns
   pub items : it .items ≡ laid ns (replicate 64 0)
+  pub next : d ≡ record { at = d .at; line = line + 1 }
 
-pub got-line : (l : Line) (it : Items) (n : ℕ) (a : Bool) (d : Cursor) → it ≡ itemsOf l → it .answer ≡ Got n a d → GotLine l it n a d
+pub got-line : (line : ℕ) (l : Line) (it : Items) (n : ℕ) (a : Bool) (d : Cursor) → it ≡ itemsOf line l → it .answer ≡ Got n a d → GotLine line l it n a d
 unfolding itemsOf refusedItems
-got-line (bad r) it n a d h g =
+got-line line (bad r) it n a d h g =
     let w : Refused r ≡ Got n a d = ap (λ (x : Items). x .answer) (sym h) ∙ g in
     let z : _≡_ {A = ℕ} 0 1 = cc in absurd (omega arith)
-got-line (good ns at) it n a d h g =
-    let w : Got (length ns) (ascending ns) (record { at = at }) ≡ Got n a d = ap (λ (x : Items). x .answer) (sym h) ∙ g in
-    let p : _≡_ {A = Cursor} (record { at = at }) d = cc in
+got-line line (good ns at) it n a d h g =
+    let w : Got (length ns) (ascending ns) (record { at = at; line = line + 1 }) ≡ Got n a d = ap (λ (x : Items). x .answer) (sym h) ∙ g in
+    let p : _≡_ {A = Cursor} (record { at = at; line = line + 1 }) d = cc in
     record {
       ns = ns;
       is = ap (good ns) (ap (λ (x : Cursor). x .at) p);
       count = cc;
       order = cc;
       items = ap (λ (x : Items). x .items) h;
+      next = sym p ∙ ap (λ (x : Cursor). record { at = x .at; line = line + 1 }) p;
     }
 
-module _ (k : List ℕ → ℕ) where
-  pub check-refused : (l : Line) (it : Items) (r : ℕ) → it ≡ itemsOf l → it .answer ≡ Refused r → it ≡ itemsOf (checked k l)
+module _ (k : List ℕ → ℕ) (line : ℕ) where
+  pub check-refused : (l : Line) (it : Items) (r : ℕ) → it ≡ itemsOf line l → it .answer ≡ Refused r → it ≡ itemsOf line (checked k l)
   unfolding checked itemsOf
   check-refused (bad x) it r h g = h
   check-refused (good ns at) it r h g =
-      let w : Got (length ns) (ascending ns) (record { at = at }) ≡ Refused r = ap (λ (x : Items). x .answer) (sym h) ∙ g in
+      let w : Got (length ns) (ascending ns) (record { at = at; line = line + 1 }) ≡ Refused r = ap (λ (x : Items). x .answer) (sym h) ∙ g in
       let z : _≡_ {A = ℕ} 0 1 = cc in absurd (omega arith)
 
   check-good : (ns : List ℕ) (at : ℕ) → k ns ≡ 0 → checked k (good ns at) ≡ good ns at
@@ -125,12 +142,13 @@ module _ (k : List ℕ → ℕ) where
   unfolding checked
   check-bad ns at r z = rw (ne-eqb (k ns) 0 (λ e. omega arith), checked) (ap bad z)
 
-  pub check-pass : (l : Line) (it : Items) (n : ℕ) (a : Bool) (d : Cursor) → it ≡ itemsOf l → (g : GotLine l it n a d) → k (g .ns) ≡ 0 → it ≡ itemsOf (checked k l)
-  check-pass l it n a d h g z = h ∙ ap itemsOf (g .is ∙ sym (check-good _ _ z) ∙ ap (checked k) (sym (g .is)))
+  pub check-pass : (l : Line) (it : Items) (n : ℕ) (a : Bool) (d : Cursor) → it ≡ itemsOf line l → (g : GotLine line l it n a d) → k (g .ns) ≡ 0 → it ≡ itemsOf line (checked k l)
+  check-pass l it n a d h g z = h ∙ ap (itemsOf line) (g .is ∙ sym (check-good _ _ z) ∙ ap (checked k) (sym (g .is)))
 
-  pub check-fail : (l : Line) (it : Items) (n : ℕ) (a : Bool) (d : Cursor) (r : ℕ) → (g : GotLine l it n a d) → k (g .ns) ≡ suc r → itemsOf (checked k l) ≡ refusedItems (suc r)
+  pub check-fail : (l : Line) (it : Items) (n : ℕ) (a : Bool) (d : Cursor) (r : ℕ) → (g : GotLine line l it n a d) → k (g .ns) ≡ suc r
+      → itemsOf line (checked k l) ≡ refusedItems (suc r)
   unfolding itemsOf
-  check-fail l it n a d r g z = ap itemsOf (ap (checked k) (g .is) ∙ check-bad _ _ r z)
+  check-fail l it n a d r g z = ap (itemsOf line) (ap (checked k) (g .is) ∙ check-bad _ _ r z)
 
 pub final-ok : (ns : List ℕ) → ascending ns ≡ true → finalCheck ns ≡ 0
 unfolding finalCheck

@@ -1,5 +1,4 @@
 -- The line `merge`, from what the code finds: a pass over the numbers that were read.
--- Assumes nothing.
 use mathlib.Core.Path.{_≡_, refl, ap, _∙_}
 use mathlib.Core.Bool.{Bool, true, false}
 use mathlib.Core.List.{List, [], _∷_}

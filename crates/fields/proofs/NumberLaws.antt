@@ -1,5 +1,4 @@
 -- What `numberFrom` says at each kind of byte, over the rest of a file; and the bounds of a number of n digits.
--- Assumes nothing.
 use mathlib.Core.Path.{_≡_}
 use mathlib.Core.Bool.{true, false}
 use mathlib.Core.List.{List}
@@ -10,7 +9,7 @@ use native.Mathlib.Omega.{arith}
 use borrow.Author.Tests.{leb-true, leb-false}
 use lib.Dec.{leb}
 use lib.ListN.{length, drop, getD}
-use Rattle.fields.specs.declared.cursor.Field.the-variants.{Refused}
+use Rattle.fields.specs.declared.cursor.Taken.the-variants.{Fault}
 use Rattle.fields.specs.Number.{isDigit, full, ended, numberFrom}
 use Rattle.fields.proofs.Rest.{rest-end, rest-cons}
 use Rattle.theory.proofs.Bools.{and-both, neither}
@@ -43,7 +42,7 @@ module _ (file : List ℕ) (n v at : ℕ) where
   unfolding numberFrom
   number-stop h d = rw (rest-cons file at h, d, numberFrom)
 
-  pub number-full : at < length file → isDigit (getD file at 0) ≡ true → full n v ≡ true → numberFrom n v at (drop at file) ≡ Refused 4
+  pub number-full : at < length file → isDigit (getD file at 0) ≡ true → full n v ≡ true → numberFrom n v at (drop at file) ≡ Fault
   unfolding numberFrom
   number-full h d f = rw (rest-cons file at h, d, f, numberFrom)
 

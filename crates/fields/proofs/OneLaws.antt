@@ -1,114 +1,171 @@
--- A line of one number, from what the code finds on the way.
--- Assumes nothing.
-use mathlib.Core.Path.{_≡_, refl, ap, _∙_}
-use mathlib.Core.Bool.{Bool, true, false}
+-- A line of one number: what paper says of it, from what the code finds on the way.
+use mathlib.Core.Path.{_≡_, refl, sym, ap, _∙_}
+use mathlib.Core.Bool.{Bool, true, false, _&&_}
+use mathlib.Core.Logic.{inl, inr}
 use mathlib.Core.List.{List, [], _∷_}
-use Prim.Native.Nat.{ℕ, _+_, _*_, _-_, _≤_, _<_}
+use Prim.Native.Nat.{ℕ, suc, _+_, _≤_, _<_}
+use native.Mathlib.Numerals.{add-one}
 use native.Mathlib.Omega.{arith}
-use borrow.Author.Tests.{le-leb, lt-leb, eqb-true}
-use lib.Dec.{eqb}
-use lib.ListN.{length, drop, getD}
-use Rattle.fields.specs.declared.cursor.Cursor.{Cursor}
+use borrow.Author.Tests.{le-leb, lt-leb, ne-eqb, eqb-true, eqb-false}
+use lib.Dec.{eqb, leb}
+use lib.ListN.{length, drop, getD, length-drop}
+use Rattle.paper.specs.Checked.{Checked, fault, says, _>>=_, _>>_, _unless_}
+use Rattle.paper.specs.Lines.{Said}
+use Rattle.paper.specs.Fields.{all, each, entries, number, isNumber}
+use Rattle.paper.specs.Certificate.{Kind, row, Row as PaperRow}
+use Rattle.paper.specs.Tables.{numbers as paperNumbers, numbersOf, within, singleNumber}
+use Rattle.paper.specs.Format.{onLine, lineOf, fixed}
+use Rattle.paper.proofs.Smallest.{decided}
+use Rattle.paper.proofs.Checked.{silent}
 use Rattle.fields.specs.declared.rows.Row.{Row}
-use Rattle.fields.specs.declared.cursor.Opened.the-variants.{At, Missing}
+use Rattle.fields.specs.declared.cursor.Cursor.{Cursor}
 use Rattle.fields.specs.declared.cursor.Field.the-variants.{Read, Refused}
-use Rattle.fields.specs.Number.{isDigit, full, numberFrom}
-use Rattle.fields.specs.Value.{Value, numbers, notNumbers, withFirst, code, entriesFrom, entryAt, valueOf, valueAt}
-use Rattle.fields.specs.Line.{openAt, inRow, oneNumber, numberIn, numberLine}
-use Rattle.fields.proofs.ValueLaws.{afterEntry, after, entries-entry, value-read, after-end, after-lf, after-comma, after-other}
+use Rattle.fields.specs.declared.cursor.Opened.the-variants.{At, Missing}
+use Rattle.fields.specs.declared.cursor.Taken.the-variants.{Read as Taken·Read, Fault}
+use Rattle.fields.specs.Number.{numberFrom}
+use Rattle.fields.specs.Value.{Value, numbers, notNumbers, withFirst, entryAt, valueOf, valueAt}
+use Rattle.fields.specs.Line.{afterKey, hasEnd, kindAt, lineRow, keyAt, codeRow, rowAt, unended}
+use Rattle.fields.specs.Said.{Placed, saidField, PlacedField, FieldLine}
+use Rattle.fields.proofs.LineLaws.{open-no-key, open-no-end, open-at, key-within, unended-four, unended-three}
+use Rattle.fields.proofs.ValueLaws.{Some, entries-some, value-endless, afterEntry, after, entries-entry, value-read, after-end, after-lf, after-comma, after-other, read-within}
+use Rattle.fields.proofs.Entries.{saidValue, found}
+use Rattle.fields.proofs.Readings.{keyed, keyed-reads, fixed-row}
+use Rattle.fields.proofs.Bridge.{valuesOf, values-numbersOf, keyed-missing, keyed-at, value-found}
 
-module _ (r : Row) where
-  two : (v w : ℕ) (x : Value) → oneNumber r (withFirst v (withFirst w x)) ≡ Refused 4
-  unfolding oneNumber
-  two v w (numbers ns at) = refl
-  two v w notNumbers = refl
+-- The judgement of a line's numbers, and of a value.
+unfoldable oneOf : Kind → List ℕ → Checked ℕ
+oneOf K ns = 4 unless eqb (length ns) 1 >> (5 unless all ns (within K) >> says (getD ns 0 0))
 
-  -- a comma after the first number: there are two, or none
-  more-than-one : (u : ℕ) (s : List ℕ) (n v at : ℕ) → oneNumber r (withFirst u (entriesFrom 0 n v at s)) ≡ Refused 4
-  unfolding oneNumber entriesFrom code
-  more-than-one u [] n v at = refl
-  more-than-one u (b ∷ s) n v at =
-      go (more-than-one u s (n + 1) (v * 10 + (b - 48)) (at + 1)) (isDigit b) refl (full n v) refl (eqb n 0) refl (eqb b 10) refl (eqb b 44) refl
-    where
-      go : oneNumber r (withFirst u (entriesFrom 0 (n + 1) (v * 10 + (b - 48)) (at + 1) s)) ≡ Refused 4
-          → (d : Bool) → isDigit b ≡ d → (f : Bool) → full n v ≡ f → (z : Bool) → eqb n 0 ≡ z → (l : Bool) → eqb b 10 ≡ l → (k : Bool) → eqb b 44 ≡ k
-          → oneNumber r (withFirst u (entriesFrom 0 n v at (b ∷ s))) ≡ Refused 4
-      go ih true p true q z r l t k x = rw (p, q, entriesFrom)
-      go ih true p false q z r l t k x = rw (p, q, entriesFrom) ih
-      go ih false p f q true r l t k x = rw (p, r, entriesFrom)
-      go ih false p f q false r true t k x = rw (p, r, t, entriesFrom)
-      go ih false p f q false r false t true x = rw (p, r, t, x, entriesFrom) (two u v (entriesFrom 0 0 0 (at + 1) s))
-      go ih false p f q false r false t false x = rw (p, r, t, x, entriesFrom)
+unfoldable judged : List ℕ → Kind → Value → Checked (Said ℕ)
+judged file K notNumbers = fault 4
+judged file K (numbers ns at) = found (drop at file) (oneOf K ns)
 
-  -- no number at the place of the value
-  one-refused : (file s : List ℕ) (at k : ℕ) → drop at file ≡ s → numberFrom 0 0 at s ≡ Refused k → oneNumber r (valueAt at s) ≡ Refused 4
-  unfolding oneNumber valueOf entryAt
-  one-refused file [] at k d e = refl
-  one-refused file (b ∷ s) at k d e = go (eqb b 10) refl
-    where
-      go : (t : Bool) → eqb b 10 ≡ t → oneNumber r (valueAt at (b ∷ s)) ≡ Refused 4
-      go true p = rw (p, valueOf)
-      go false p = rw (p, valueOf) (ap (oneNumber r) (entries-entry file (b ∷ s) 0 at (omega arith) d ∙ ap (after 0 file) e))
+-- no value is not one number, whether the row allows it or not
+none-judge : (e : Bool) (K : Kind) → (valuesOf 0 true [] >>= oneOf K) ≡ (numbersOf e [] >>= oneOf K)
+unfolding valuesOf numbersOf paperNumbers each entries number isNumber oneOf _unless_ _>>_ _>>=_
+none-judge true K = refl
+none-judge false K = refl
 
-  -- the number v at the place of the value, up to c
-  module _ (file : List ℕ) (at v : ℕ) (c : Cursor) (e : numberFrom 0 0 at (drop at file) ≡ Read v c) where
-    start : oneNumber r (valueAt at (drop at file)) ≡ oneNumber r (afterEntry 0 v (c .at) (drop (c .at) file))
-    start = ap (oneNumber r) (value-read file (drop at file) at v c refl e)
+some-judge : (e : Bool) (b : ℕ) (bs : List ℕ) → valuesOf 0 true (b ∷ bs) ≡ numbersOf e (b ∷ bs)
+unfolding numbersOf
+some-judge true b bs = values-numbersOf true (b ∷ bs)
+some-judge false b bs = values-numbersOf true (b ∷ bs)
 
-    one-end : length file ≤ c .at → oneNumber r (valueAt at (drop at file)) ≡ Refused 4
-    unfolding oneNumber
-    one-end h = start ∙ ap (oneNumber r) (after-end 0 file (c .at) v h)
+one-judge : (K : Kind) (value : List ℕ) → (valuesOf 0 true value >>= oneOf K) ≡ singleNumber K value
+unfolding singleNumber oneOf
+one-judge K [] = none-judge (row K .empty) K
+one-judge K (b ∷ bs) = ap (λ (j : Checked (List ℕ)). j >>= oneOf K) (some-judge (row K .empty) b bs)
 
-    one-lf : c .at < length file → getD file (c .at) 0 ≡ 10 → oneNumber r (valueAt at (drop at file)) ≡ inRow r v (c .at + 1)
-    unfolding oneNumber
-    one-lf h l = start ∙ ap (oneNumber r) (after-lf 0 file (c .at) v h l)
+judged-is : (file : List ℕ) (K : Kind) (x : Value) (behind : List ℕ) (j : Checked (List ℕ)) → saidValue file x ≡ found behind j → judged file K x ≡ found behind (j >>= oneOf K)
+unfolding saidValue found judged _>>=_
+judged-is file K notNumbers behind (fault n) e = let same : _≡_ {A = ℕ} 4 n = cc in ap fault same
+judged-is file K notNumbers behind (says ns) e = absurd (silent e)
+judged-is file K (numbers ns at) behind (fault n) e = absurd (silent (sym e))
+judged-is file K (numbers ns at) behind (says ms) e =
+    let same : _≡_ {A = Said (List ℕ)} (record { what = ns; rest = drop at file }) (record { what = ms; rest = behind }) = cc in
+    rw (← ap (λ (s : Said (List ℕ)). s .what) same, ← ap (λ (s : Said (List ℕ)). s .rest) same)
 
-    one-other : c .at < length file → (getD file (c .at) 0 ≡ 10 → ⊥) → oneNumber r (valueAt at (drop at file)) ≡ Refused 4
-    unfolding oneNumber
-    one-other h l = start ∙ go (eqb (getD file (c .at) 0) 44) refl
-      where
-        go : (t : Bool) → eqb (getD file (c .at) 0) 44 ≡ t → oneNumber r (afterEntry 0 v (c .at) (drop (c .at) file)) ≡ Refused 4
-        go true p = ap (oneNumber r) (after-comma 0 file (c .at) v h (eqb-true _ _ p)) ∙ more-than-one v (drop (c .at + 1) file) 0 0 (c .at + 1)
-        go false p = ap (oneNumber r) (after-other 0 file (c .at) v h l (borrow.Author.Tests.eqb-false _ _ p))
+-- A value that is not one number.
+module _ (file : List ℕ) (K : Kind) where
+  not-two : (s : List ℕ) (w : ℕ) (x : Value) → Some s x → judged file K (withFirst w x) ≡ fault 4
+  unfolding Some judged oneOf found _unless_ _>>_ _>>=_
+  not-two s w notNumbers h = refl
+  not-two s w (numbers (v ∷ ns) at) h = rw (ne-eqb (suc (suc (length ns))) 1 (λ z. omega arith))
 
-  row-under : (v at : ℕ) → v < r .least → inRow r v at ≡ Refused 5
-  unfolding inRow
-  row-under v at h = rw (lt-leb _ _ h, inRow)
+  not-any : (s : List ℕ) (at : ℕ) → drop at file ≡ s → numberFrom 0 0 at s ≡ Fault → judged file K (valueAt at s) ≡ fault 4
+  unfolding judged oneOf found _unless_ _>>_ _>>=_ valueOf entryAt
+  not-any [] at d e = refl
+  not-any (b ∷ s) at d e = elim (decided (eqb b 10)) [
+    | inl p ↦ rw (p, valueOf)
+    | inr p ↦ rw (p, valueOf) (ap (judged file K) (entries-entry file (b ∷ s) 0 at (omega arith) d ∙ ap (after 0 file) e))
+  ]
 
-  row-over : (v at : ℕ) → r .least ≤ v → r .greatest < v → inRow r v at ≡ Refused 5
-  unfolding inRow
-  row-over v at l h = rw (le-leb _ _ l, lt-leb _ _ h, inRow)
+  module _ (v e : ℕ) where
+    not-ended : length file ≤ e → judged file K (afterEntry 0 v e (drop e file)) ≡ fault 4
+    unfolding judged
+    not-ended h = ap (judged file K) (after-end 0 file e v h)
 
-  row-in : (v at : ℕ) → r .least ≤ v → v ≤ r .greatest → inRow r v at ≡ Read v (record { at = at })
-  unfolding inRow
-  row-in v at l h = rw (le-leb _ _ l, le-leb _ _ h, inRow)
+    not-lf : e < length file → (getD file e 0 ≡ 10 → ⊥) → judged file K (afterEntry 0 v e (drop e file)) ≡ fault 4
+    unfolding judged
+    not-lf h l = elim (decided (eqb (getD file e 0) 44)) [
+      | inl p ↦ ap (judged file K) (after-comma 0 file e v h (eqb-true _ _ p)) ∙ not-two _ v _ (entries-some (drop (e + 1) file) 0 0 0 (e + 1))
+      | inr p ↦ ap (judged file K) (after-other 0 file e v h l (eqb-false _ _ p))
+    ]
 
--- the whole line, from what the code finds in it
-module _ (key file : List ℕ) (r : Row) (at : ℕ) where
-  pub line-missing : openAt key file at ≡ Missing → numberLine key r file at ≡ Refused 3
-  unfolding numberIn
-  line-missing o = ap (numberIn r file) o
+-- The line at c of this kind.
+module _ (file : List ℕ) (kind : ℕ) (low : kind < 10) (c : Cursor) where
+  line-is : onLine (c .line) (keyed (keyAt kind) (singleNumber (kindAt kind)) (drop (c .at) file)) ≡ fixed (kindAt kind) singleNumber (c .line) (drop (c .at) file)
+  unfolding fixed
+  line-is =
+      keyed-reads (lineRow kind) (singleNumber (kindAt kind)) (c .line) (drop (c .at) file)
+      ∙ ap (λ (r : PaperRow). lineOf (r .key) (singleNumber (kindAt kind)) (c .line) (drop (c .at) file)) (fixed-row kind low)
 
-  module _ (b : Cursor) (o : openAt key file at ≡ At b) where
-    line-open : numberLine key r file at ≡ oneNumber r (valueAt (b .at) (drop (b .at) file))
-    unfolding numberIn
-    line-open = ap (numberIn r file) o
+  line-faults : (r : ℕ) → keyed (keyAt kind) (singleNumber (kindAt kind)) (drop (c .at) file) ≡ fault r → FieldLine file (kindAt kind) c (Refused r)
+  unfolding saidField PlacedField onLine
+  line-faults r e = record { said = sym (ap (onLine (c .line)) e) ∙ line-is; placed = tt }
 
-    pub line-refused : (k : ℕ) → numberFrom 0 0 (b .at) (drop (b .at) file) ≡ Refused k → numberLine key r file at ≡ Refused 4
-    line-refused k e = line-open ∙ one-refused r file _ (b .at) k refl e
+  pub line-missing : afterKey (keyAt kind) (c .at) (drop (c .at) file) ≡ Missing → FieldLine file (kindAt kind) c (Refused 3)
+  line-missing o = line-faults 3 (keyed-missing _ (singleNumber (kindAt kind)) file (c .at) (open-no-key _ file (c .at) o))
 
-    module _ (v : ℕ) (c : Cursor) (e : numberFrom 0 0 (b .at) (drop (b .at) file) ≡ Read v c) where
-      pub line-end : length file ≤ c .at → numberLine key r file at ≡ Refused 4
-      line-end h = line-open ∙ one-end r file (b .at) v c e h
+  module _ (a : ℕ) (o : afterKey (keyAt kind) (c .at) (drop (c .at) file) ≡ At a) where
+    line-ends : hasEnd (drop a file) ≡ true → keyed (keyAt kind) (singleNumber (kindAt kind)) (drop (c .at) file) ≡ judged file (kindAt kind) (valueAt a (drop a file))
+    line-ends h =
+        let t = keyed-at _ (singleNumber (kindAt kind)) file (c .at) a (open-at _ file (c .at) a o h) in
+        t .is ∙ ap (found (t .line .rest)) (sym (one-judge (kindAt kind) (t .line .what)))
+        ∙ sym (judged-is file (kindAt kind) _ (t .line .rest) _ (value-found file (drop a file) 0 a (t .line) refl refl (t .ends)))
 
-      pub line-other : c .at < length file → (getD file (c .at) 0 ≡ 10 → ⊥) → numberLine key r file at ≡ Refused 4
-      line-other h l = line-open ∙ one-other r file (b .at) v c e h l
+    not-one : judged file (kindAt kind) (valueAt a (drop a file)) ≡ fault 4 → (r : ℕ) → r ≡ unended 4 (drop a file) → FieldLine file (kindAt kind) c (Refused r)
+    not-one e r p = elim (decided (hasEnd (drop a file))) [
+      | inl h ↦ line-faults r (line-ends h ∙ e ∙ ap fault (sym (p ∙ unended-four 4 _ refl h)))
+      | inr h ↦
+          line-faults r
+          (keyed-missing _ (singleNumber (kindAt kind)) file (c .at) (open-no-end _ file (c .at) a o h) ∙ ap fault (sym (p ∙ unended-three 4 _ refl h)))
+    ]
 
-      pub line-under : c .at < length file → getD file (c .at) 0 ≡ 10 → v < r .least → numberLine key r file at ≡ Refused 5
-      line-under h l m = line-open ∙ one-lf r file (b .at) v c e h l ∙ row-under r v _ m
+    pub line-fault : numberFrom 0 0 a (drop a file) ≡ Fault → (r : ℕ) → r ≡ unended 4 (drop a file) → FieldLine file (kindAt kind) c (Refused r)
+    line-fault e = not-one (not-any file (kindAt kind) _ a refl e)
 
-      pub line-over : c .at < length file → getD file (c .at) 0 ≡ 10 → r .least ≤ v → r .greatest < v → numberLine key r file at ≡ Refused 5
-      line-over h l m g = line-open ∙ one-lf r file (b .at) v c e h l ∙ row-over r v _ m g
+    module _ (v e : ℕ) (h : numberFrom 0 0 a (drop a file) ≡ Taken·Read v e) where
+      value-is : valueAt a (drop a file) ≡ afterEntry 0 v e (drop e file)
+      value-is = value-read file (drop a file) a v e refl h
 
-      pub line-in : c .at < length file → getD file (c .at) 0 ≡ 10 → r .least ≤ v → v ≤ r .greatest → numberLine key r file at ≡ Read v (record { at = c .at + 1 })
-      line-in h l m g = line-open ∙ one-lf r file (b .at) v c e h l ∙ row-in r v _ m g
+      pub line-end : length file ≤ e → (r : ℕ) → r ≡ unended 4 (drop a file) → FieldLine file (kindAt kind) c (Refused r)
+      line-end l = not-one (ap (judged file (kindAt kind)) value-is ∙ not-ended file (kindAt kind) v e l)
+
+      pub line-other : e < length file → (getD file e 0 ≡ 10 → ⊥) → (r : ℕ) → r ≡ unended 4 (drop a file) → FieldLine file (kindAt kind) c (Refused r)
+      line-other l n = not-one (ap (judged file (kindAt kind)) value-is ∙ not-lf file (kindAt kind) v e l n)
+
+      module _ (inside : e < length file) (lf : getD file e 0 ≡ 10) (w : Row) (same : w ≡ rowAt kind) where
+        one : valueAt a (drop a file) ≡ numbers (v ∷ []) (e + 1)
+        one = value-is ∙ after-lf 0 file e v inside lf
+
+        has-one : keyed (keyAt kind) (singleNumber (kindAt kind)) (drop (c .at) file)
+            ≡ found (drop (e + 1) file) (5 unless (leb (w .least) v && leb v (w .greatest)) && true >> says v)
+        unfolding codeRow _unless_ _>>_
+        has-one = elim (decided (hasEnd (drop a file))) [
+          | inl p ↦
+              line-ends p ∙ ap (judged file (kindAt kind)) one
+              ∙ (unfold judged oneOf all within in (rw (ap (λ (x : Row). x .least) same, ap (λ (x : Row). x .greatest) same, fixed-row kind low)))
+          | inr p ↦
+              let no : notNumbers ≡ numbers (v ∷ []) (e + 1) = sym (value-endless (drop a file) 0 a p) ∙ one in
+              let z : _≡_ {A = ℕ} 0 1 = cc in absurd (omega arith)
+        ]
+
+        pub line-under : v < w .least → FieldLine file (kindAt kind) c (Refused 5)
+        unfolding found _unless_ _>>_ _>>=_
+        line-under l = line-faults 5 (has-one ∙ rw (lt-leb _ _ l))
+
+        pub line-over : w .least ≤ v → w .greatest < v → FieldLine file (kindAt kind) c (Refused 5)
+        unfolding found _unless_ _>>_ _>>=_
+        line-over l m = line-faults 5 (has-one ∙ rw (le-leb _ _ l, lt-leb _ _ m))
+
+        pub line-in : Placed file c → w .least ≤ v → v ≤ w .greatest → FieldLine file (kindAt kind) c (Read v (record { at = e + 1; line = c .line + 1 }))
+        unfolding saidField PlacedField onLine found _unless_ _>>_ _>>=_
+        line-in p l m =
+            let k = key-within _ _ (c .at) a o in
+            let q = read-within 0 file a v (omega (arith, length-drop (c .at) file)) e (unfold entryAt in h) in
+            let is : keyed (keyAt kind) (singleNumber (kindAt kind)) (drop (c .at) file) ≡ says (record { what = v; rest = drop (e + 1) file }) = has-one ∙ rw (le-leb _ _ l, le-leb _ _ m) in
+            record {
+              said = rw (add-one (c .line)) (sym (ap (onLine (c .line)) is) ∙ line-is);
+              placed = record { inside = omega arith; near = omega arith; fits = p .fits };
+            }

@@ -1,37 +1,36 @@
 -- A line of a transition, from what the code finds.
--- Assumes nothing.
 use mathlib.Core.Path.{_≡_, refl, sym, ap, _∙_}
-use mathlib.Core.Bool.{Bool, true, false}
+use mathlib.Core.Bool.{Bool, true, false, false≢true}
 use mathlib.Core.List.{List, [], _∷_}
 use Prim.Native.Nat.{ℕ, zero, suc, _+_, _-_, _≤_, _<_}
 use native.Mathlib.Nat.{le-of-suc-le-suc}
 use native.Mathlib.Omega.{arith}
 use borrow.Author.Tests.{ltb-true, ltb-false, eq-eqb, ne-eqb}
 use lib.Dec.{ltb}
-use lib.ListN.{length, drop, getD, replicate, length-replicate}
+use Rattle.paper.specs.Certificate.{Row}
+use lib.ListN.{length, getD, replicate, length-replicate}
 use Rattle.fields.specs.declared.cursor.Cursor.{Cursor}
 use Rattle.fields.specs.declared.lists.Items.{Items}
 use Rattle.fields.specs.declared.arrows.Trans.{Trans}
-use Rattle.fields.specs.declared.cursor.Opened.{Opened}
-use Rattle.fields.specs.declared.cursor.Opened.the-variants.{At, Missing}
+use Rattle.fields.specs.declared.cursor.Sort.the-variants.{Numbers}
 use Rattle.fields.specs.declared.lists.Listed.the-variants.{Got, Refused}
 use Rattle.fields.specs.declared.arrows.Arrow.the-variants.{Read as ArrowRead, Refused as ArrowRefused}
-use Rattle.fields.specs.Value.{Value, numbers, notNumbers, valueAt}
-use Rattle.fields.specs.Line.{openAt}
-use Rattle.fields.specs.Listed.{refusedItems, beyond, ascending, laid}
-use Rattle.fields.specs.Lines.{Line, good, bad, numbersIn, lineIn, listLine, checked, itemsOf}
+use Rattle.fields.specs.Line.{openAt, keyOf}
+use Rattle.fields.specs.Listed.{refusedItems, exceeds, beyond, ascending, laid}
+use Rattle.fields.specs.Lines.{Line, good, bad, entryLine, checked, itemsOf}
 use Rattle.fields.specs.Trans.{argIn, transOf, transCheck, arrowOf, refusalIn}
 use Rattle.fields.proofs.LinesLaws.{GotLine}
+use Rattle.fields.proofs.TellLaws.{good-line}
 use Rattle.theory.proofs.Bools.{neither}
 
-pub laid-get : (ns zs : List ℕ) (i : ℕ) → i < length ns → i < length zs → getD (laid ns zs) i 0 ≡ getD ns i 0
+laid-get : (ns zs : List ℕ) (i : ℕ) → i < length ns → i < length zs → getD (laid ns zs) i 0 ≡ getD ns i 0
 unfolding laid
 laid-get ns [] i h k = absurd (omega arith)
 laid-get [] (z ∷ zs) i h k = absurd (omega arith)
 laid-get (v ∷ ns) (z ∷ zs) zero h k = refl
 laid-get (v ∷ ns) (z ∷ zs) (suc i) h k = laid-get ns zs i (le-of-suc-le-suc h) (le-of-suc-le-suc k)
 
-pub laid-at : (ns : List ℕ) (i : ℕ) → i < length ns → i < 64 → getD (laid ns (replicate 64 0)) i 0 ≡ getD ns i 0
+laid-at : (ns : List ℕ) (i : ℕ) → i < length ns → i < 64 → getD (laid ns (replicate 64 0)) i 0 ≡ getD ns i 0
 laid-at ns i h k = laid-get ns (replicate 64 0) i h (omega (arith, length-replicate {A = ℕ} 64 0))
 
 -- an argument is before the last number
@@ -57,36 +56,18 @@ trans-is ns items n e h p q =
       laid-at ns (length ns - 1) (omega arith) (omega arith),
     )
 
--- a good line that may not be empty has a first number, in its range
-numbers-first : (f m : ℕ) (x : Value) (ns : List ℕ) (at : ℕ) → numbersIn f m false x ≡ good ns at → (0 < length ns) × (getD ns 0 0 ≤ f)
-unfolding numbersIn beyond
-numbers-first f m notNumbers ns at e = let z : _≡_ {A = ℕ} 0 1 = cc in absurd (omega arith)
-numbers-first f m (numbers [] k) ns at e = let z : _≡_ {A = ℕ} 0 1 = cc in absurd (omega arith)
-numbers-first f m (numbers (v ∷ vs) k) ns at e = go (beyond f m (v ∷ vs)) refl
-  where
-    go : (t : Bool) → beyond f m (v ∷ vs) ≡ t → (0 < length ns) × (getD ns 0 0 ≤ f)
-    go true p = let w : bad 5 ≡ good ns at = rw (p, numbersIn) at e in let z : _≡_ {A = ℕ} 0 1 = cc in absurd (omega arith)
-    go false p =
-        let w : good (v ∷ vs) k ≡ good ns at = rw (p, numbersIn) at e in
-        let q : v ∷ vs ≡ ns = cc in
-        rw (← q) (omega arith, ltb-false _ _ (neither (ltb f v) _ p .0))
-
-pub line-first : (f m : ℕ) (file : List ℕ) (o : Opened) (ns : List ℕ) (at : ℕ) → lineIn 0 f m false file o ≡ good ns at → (0 < length ns) × (getD ns 0 0 ≤ f)
-unfolding lineIn
-line-first f m file Missing ns at e = let z : _≡_ {A = ℕ} 0 1 = cc in absurd (omega arith)
-line-first f m file (At c) ns at e = numbers-first f m (valueAt (c .at) (drop (c .at) file)) ns at e
-
-pub first-number : (key : List ℕ) (f m : ℕ) (file : List ℕ) (at : ℕ) (it : Items) (n : ℕ) (a : Bool) (d : Cursor)
-    → (g : GotLine (listLine key f m false file at) it n a d) → (0 < n) × (getD (it .items) 0 0 ≤ f) × (getD (it .items) 0 0 ≡ getD (g .ns) 0 0)
-first-number key f m file at it n a d g =
-    let p = line-first f m file (openAt key file at) (g .ns) (d .at) (g .is) in
-    let q : getD (it .items) 0 0 ≡ getD (g .ns) 0 0 = ap (λ (l : List ℕ). getD l 0 0) (g .items) ∙ laid-at (g .ns) 0 (p .0) (omega arith) in
+-- the first number of a line, as it is handed over
+pub first-number : (line f m : ℕ) (r : Row) (file : List ℕ) (at : ℕ) (it : Items) (n : ℕ) (a : Bool) (d : Cursor) → r .empty ≡ false
+    → (g : GotLine line (entryLine (Numbers f m) r file at) it n a d) → (0 < n) × (getD (it .items) 0 0 ≤ f) × (getD (it .items) 0 0 ≡ getD (g .ns) 0 0)
+first-number line f m r file at it n a d e g =
+    let w = good-line (Numbers f m) (r .empty) file (openAt (keyOf r) file at) (g .ns) (d .at) (g .is) in
+    let (s, l) = first-in (g .ns) (w .within) (λ z. false≢true (sym e ∙ w .some z)) in
+    let q : getD (it .items) 0 0 ≡ getD (g .ns) 0 0 = ap (λ (l : List ℕ). getD l 0 0) (g .items) ∙ laid-at (g .ns) 0 s (omega arith) in
     (omega (arith, g .count), omega arith, q)
-
--- the same of the bytes
-pub first-byte : (key : List ℕ) (f m : ℕ) (file : List ℕ) (at : ℕ) (it : Items) (n : ℕ) (a : Bool) (d : Cursor) (bytes : List ℕ) → bytes ≡ it .items
-    → (g : GotLine (listLine key f m false file at) it n a d) → (0 < n) × (getD bytes 0 0 ≤ f) × (getD bytes 0 0 ≡ getD (g .ns) 0 0)
-first-byte key f m file at it n a d bytes e g = rw e (first-number key f m file at it n a d g)
+  where
+    first-in : (ns : List ℕ) → beyond (Numbers f m) ns ≡ false → (ns ≡ [] → ⊥) → (0 < length ns) × (getD ns 0 0 ≤ f)
+    first-in [] b h = absurd (h refl)
+    first-in (v ∷ vs) b h = (omega arith, unfold beyond exceeds in (ltb-false f v (neither (ltb f v) _ b .0)))
 
 pub trans-ok : (arities ns : List ℕ) → length ns ≡ getD arities (getD ns 0 0) 0 + 2 → transCheck arities ns ≡ 0
 unfolding transCheck
@@ -96,18 +77,20 @@ pub trans-not : (arities ns : List ℕ) → (length ns ≡ getD arities (getD ns
 unfolding transCheck
 trans-not arities ns p = rw (ne-eqb _ _ p, transCheck)
 
-module _ (k : List ℕ → ℕ) where
-  pub arrow-refused : (l : Line) (it : Items) (r : ℕ) → it ≡ itemsOf l → it .answer ≡ Refused r → ArrowRefused (refusalIn (it .answer)) ≡ arrowOf (checked k l)
+module _ (k : List ℕ → ℕ) (line : ℕ) where
+  pub arrow-refused : (l : Line) (it : Items) (r : ℕ) → it ≡ itemsOf line l → it .answer ≡ Refused r → ArrowRefused (refusalIn (it .answer)) ≡ arrowOf line (checked k l)
   unfolding checked itemsOf refusedItems arrowOf refusalIn
   arrow-refused (bad x) it r h g = ap (λ (y : Items). ArrowRefused (refusalIn (y .answer))) h
   arrow-refused (good ns at) it r h g =
-      let w : Got (length ns) (ascending ns) (record { at = at }) ≡ Refused r = ap (λ (x : Items). x .answer) (sym h) ∙ g in
+      let w : Got (length ns) (ascending ns) (record { at = at; line = line + 1 }) ≡ Refused r = ap (λ (x : Items). x .answer) (sym h) ∙ g in
       let z : _≡_ {A = ℕ} 0 1 = cc in absurd (omega arith)
 
-  pub arrow-pass : (l : Line) (it : Items) (n : ℕ) (a : Bool) (d : Cursor) → (g : GotLine l it n a d) → k (g .ns) ≡ 0 → arrowOf (checked k l) ≡ ArrowRead (transOf (g .ns)) d
+  pub arrow-pass : (l : Line) (it : Items) (n : ℕ) (a : Bool) (d : Cursor) → (g : GotLine line l it n a d) → k (g .ns) ≡ 0
+      → arrowOf line (checked k l) ≡ ArrowRead (transOf (g .ns)) d
   unfolding checked arrowOf
-  arrow-pass l it n a d g z = ap (λ (x : Line). arrowOf (checked k x)) (g .is) ∙ rw (z, checked)
+  arrow-pass l it n a d g z = ap (λ (x : Line). arrowOf line (checked k x)) (g .is) ∙ rw (z, checked) (ap (ArrowRead (transOf (g .ns))) (sym (g .next)))
 
-  pub arrow-fail : (l : Line) (it : Items) (n : ℕ) (a : Bool) (d : Cursor) → (g : GotLine l it n a d) → k (g .ns) ≡ 6 → arrowOf (checked k l) ≡ ArrowRefused 6
+  pub arrow-fail : (l : Line) (it : Items) (n : ℕ) (a : Bool) (d : Cursor) → (g : GotLine line l it n a d) → k (g .ns) ≡ 6
+      → arrowOf line (checked k l) ≡ ArrowRefused 6
   unfolding checked arrowOf
-  arrow-fail l it n a d g z = ap (λ (x : Line). arrowOf (checked k x)) (g .is) ∙ rw (z, checked) (ap ArrowRefused z)
+  arrow-fail l it n a d g z = ap (λ (x : Line). arrowOf line (checked k x)) (g .is) ∙ rw (z, checked) (ap ArrowRefused z)

@@ -1,3 +1,4 @@
+-- What is read of a certificate's lines, byte by byte, and what the answers say in paper's words.
 pub mod Number
 pub mod Value
 pub mod Line

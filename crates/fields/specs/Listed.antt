@@ -1,10 +1,13 @@
--- What a list's value comes to: refusal 4 or 5, or how many numbers, whether they ascend, and the first 64 of them.
--- Assumes nothing: these are definitions.
-use Prim.Native.Nat.{ℕ, _+_}
+-- What a list's value comes to: refusal 4 or 5, or how many entries, whether they ascend, and the first 64 of them.
+use Prim.Native.Nat.{ℕ, _+_, _≤_, _<_}
 use mathlib.Core.List.{List, [], _∷_}
-use mathlib.Core.Bool.{Bool, true, false, _&&_, _||_}
+use mathlib.Core.Bool.{Bool, true, false, _&&_, _||_, not, cond}
 use lib.Dec.{eqb, ltb}
 use lib.ListN.{length, set, replicate}
+use Rattle.paper.specs.Limits.{mostSymbols, lastVariable}
+use Rattle.fields.specs.declared.cursor.Cursor.{Cursor}
+use Rattle.fields.specs.declared.cursor.Sort.{Sort}
+use Rattle.fields.specs.declared.cursor.Sort.the-variants.{Numbers, Tokens}
 use Rattle.fields.specs.declared.lists.Items.{Items}
 use Rattle.fields.specs.declared.lists.Seen.{Seen}
 use Rattle.fields.specs.declared.lists.Listed.the-variants.{Got, Refused}
@@ -14,15 +17,25 @@ use Rattle.fields.specs.Value.{Value, numbers, notNumbers}
 unfoldable pub refusedItems : ℕ → Items
 refusedItems n = record { answer = Refused n; items = replicate 64 0 }
 
--- some number is above m
-unfoldable pub anyOver : ℕ → List ℕ → Bool
-anyOver m [] = false
-anyOver m (v ∷ ns) = ltb m v || anyOver m ns
+-- an entry, perhaps the first of its line, is past its limit: a number is above it; a token is neither a listed symbol nor a variable
+unfoldable pub exceeds : Sort → Bool → ℕ → Bool
+exceeds (Numbers first rest) begins v = ltb (cond begins first rest) v
+exceeds (Tokens symbols) begins c = not (ltb c symbols) && (ltb c 64 || ltb (64 + lastVariable) c)
 
--- the first is above f, or another above m
-unfoldable pub beyond : ℕ → ℕ → List ℕ → Bool
-beyond f m [] = false
-beyond f m (v ∷ ns) = ltb f v || anyOver m ns
+-- what is within its limit is a byte
+unfoldable pub Limited : Sort → Type 0
+Limited (Numbers first rest) = (first < 256) × (rest < 256)
+Limited (Tokens symbols) = symbols ≤ mostSymbols
+
+-- an entry that is not the first is past its limit
+unfoldable pub anyOver : Sort → List ℕ → Bool
+anyOver sort [] = false
+anyOver sort (v ∷ ns) = exceeds sort false v || anyOver sort ns
+
+-- an entry is past its limit
+unfoldable pub beyond : Sort → List ℕ → Bool
+beyond sort [] = false
+beyond sort (v ∷ ns) = exceeds sort true v || anyOver sort ns
 
 -- each is above the one before it, the first above v
 unfoldable pub above : ℕ → List ℕ → Bool
@@ -40,44 +53,37 @@ laid ns [] = []
 laid [] (z ∷ zs) = z ∷ zs
 laid (v ∷ ns) (z ∷ zs) = v ∷ laid ns zs
 
--- the numbers in their ranges; 4 for a value that is not numbers, 5 for one out of range
-unfoldable pub listOf : ℕ → ℕ → Value → Items
-listOf f m notNumbers = refusedItems 4
-listOf f m (numbers ns at) =
-    elim (beyond f m ns) [
+-- the entries of a value on this line; 4 for a value that is not entries, 5 for one past its limit
+unfoldable pub listOf : (line : ℕ) → Sort → Value → Items
+listOf line sort notNumbers = refusedItems 4
+listOf line sort (numbers ns at) =
+    elim (beyond sort ns) [
       | true ↦ refusedItems 5
-      | false ↦ record { answer = Got (length ns) (ascending ns) (record { at = at }); items = laid ns (replicate 64 0) }
+      | false ↦ record { answer = Got (length ns) (ascending ns) (record { at = at; line = line + 1 }); items = laid ns (replicate 64 0) }
     ]
 
--- The same as the code goes: a state that each number changes.
+-- The same as the code goes: a state that each entry changes, and the entries beside it.
 unfoldable pub seenNone : Seen
-seenNone = record { count = 0; last = 0; over = false; ascending = true; items = replicate 64 0 }
+seenNone = record { count = 0; last = 0; over = false; ascending = true }
 
--- the state with one more number, which may be at most m
-unfoldable pub seenWith : Seen → ℕ → ℕ → Seen
-seenWith s v m =
+-- the state with one more entry
+unfoldable pub seenWith : Sort → Seen → ℕ → Seen
+seenWith sort s v =
     record {
       count = s .count + 1;
       last = v;
-      over = s .over || ltb m v;
+      over = s .over || exceeds sort (eqb (s .count) 0) v;
       ascending = s .ascending && (eqb (s .count) 0 || ltb (s .last) v);
-      items = set (s .items) (s .count) v;
     }
 
--- the state with more numbers: the first at most f, the others at most m
-unfoldable pub seenAll : Seen → ℕ → ℕ → List ℕ → Seen
-seenAll s f m [] = s
-seenAll s f m (v ∷ ns) = seenAll (seenWith s v f) m m ns
+-- the entries with one more at i, where it is a byte and there is room
+unfoldable pub kept : List ℕ → ℕ → ℕ → List ℕ
+kept items i v = cond (ltb v 256) (set items i v) items
 
 -- what is handed over at the end of the value
-unfoldable pub done : Seen → ℕ → Items
-done s at =
+unfoldable pub done : Seen → List ℕ → Cursor → Items
+done s items next =
     elim (s .over) [
       | true ↦ refusedItems 5
-      | false ↦ record { answer = Got (s .count) (s .ascending) (record { at = at }); items = s .items }
+      | false ↦ record { answer = Got (s .count) (s .ascending) next; items = items }
     ]
-
--- what is handed over for a value
-unfoldable pub finish : Seen → ℕ → ℕ → Value → Items
-finish s f m notNumbers = refusedItems 4
-finish s f m (numbers ns at) = done (seenAll s f m ns) at

@@ -1,5 +1,4 @@
 -- The line `merge`: one class for each state, and each class at most one more than the largest before it.
--- Assumes nothing: these are definitions.
 use Prim.Native.Nat.{ℕ, _+_}
 use mathlib.Core.List.{List, [], _∷_}
 use mathlib.Core.Bool.{Bool, true, false}

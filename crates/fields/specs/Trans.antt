@@ -1,5 +1,4 @@
 -- A line of a transition, and a block of them.
--- Assumes nothing: these are definitions.
 use Prim.Native.Nat.{ℕ, _+_, _-_}
 use mathlib.Core.List.{List}
 use mathlib.Core.Bool.{true, false}
@@ -31,10 +30,10 @@ transOf ns =
 unfoldable pub transCheck : List ℕ → List ℕ → ℕ
 transCheck arities ns = elim (eqb (length ns) (getD arities (getD ns 0 0) 0 + 2)) [ true ↦ 0 | false ↦ 6 ]
 
--- what the reader hands over
-unfoldable pub arrowOf : Line → Arrow
-arrowOf (bad r) = ArrowRefused r
-arrowOf (good ns at) = ArrowRead (transOf ns) (record { at = at })
+-- what the reader hands over for a line of this number
+unfoldable pub arrowOf : (line : ℕ) → Line → Arrow
+arrowOf line (bad r) = ArrowRefused r
+arrowOf line (good ns at) = ArrowRead (transOf ns) (record { at = at; line = line + 1 })
 
 -- a list line's refusal; 0 where there is none
 unfoldable pub refusalIn : Listed → ℕ

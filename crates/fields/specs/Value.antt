@@ -1,13 +1,15 @@
 -- The value of a line: its numbers, parted by commas and ended by LF, and the place after the LF.
--- Assumes nothing: these are definitions.
 use Prim.Native.Nat.{ℕ, zero, suc, _+_, _*_, _-_, _<_}
 use mathlib.Core.List.{List, [], _∷_}
 use mathlib.Core.Bool.{true, false, _&&_}
-use lib.Dec.{eqb, leb}
+use lib.Dec.{eqb, leb, ltb}
 use Rattle.theory.specs.Preorder.{Token, symbol, variable}
 use Rattle.fields.specs.Number.{isDigit, full, numberFrom}
-use Rattle.fields.specs.declared.cursor.Field.{Field}
-use Rattle.fields.specs.declared.cursor.Field.the-variants.{Read, Refused}
+use Rattle.paper.specs.Limits.{lastVariable, mostSymbols}
+use Rattle.fields.specs.declared.cursor.Taken.{Taken}
+use Rattle.fields.specs.declared.cursor.Taken.the-variants.{Read, Fault}
+use Rattle.fields.specs.declared.cursor.Sort.{Sort}
+use Rattle.fields.specs.declared.cursor.Sort.the-variants.{Numbers, Tokens}
 
 -- the entries of a value and the place behind its LF, or none
 pub data Value : Type 0 where
@@ -19,12 +21,17 @@ abbrev pub withFirst : ℕ → Value → Value
 withFirst v (numbers ns at) = numbers (v ∷ ns) at
 withFirst v notNumbers = notNumbers
 
--- An entry is a number (kind 0), or a token: a symbol (kind 1) or, after an `x`, a variable (kind 2). It is coded as one number, so that a
--- limit on it is one limit: variables 0 to 3 as they are, symbols from 4 on, and a variable above 3 past every limit.
+-- An entry is a number (kind 0), or a token: a symbol (kind 1) or, after an `x`, a variable (kind 2). A token is read as its byte: a symbol below
+-- 64 as it is, the variables from 64 on. What no certificate can have is read as 255, past every limit.
 unfoldable pub code : ℕ → ℕ → ℕ
 code zero v = v
-code (suc zero) v = v + 4
-code (suc (suc y)) v = elim (leb v 3) [ true ↦ v | false ↦ v + 100000000 ]
+code (suc zero) v = elim (ltb v mostSymbols) [ true ↦ v | false ↦ 255 ]
+code (suc (suc y)) v = elim (leb v lastVariable) [ true ↦ 64 + v | false ↦ 255 ]
+
+-- the kind at the start of a list's entries
+unfoldable pub sortKind : Sort → ℕ
+sortKind (Numbers f m) = 0
+sortKind (Tokens s) = 1
 
 -- The number that stands for a token while a line is read.
 unfoldable pub codeOf : Token → ℕ
@@ -60,18 +67,13 @@ valueOf y at (b ∷ s) = elim (eqb b 10) [ true ↦ numbers [] (at + 1) | false 
 abbrev pub valueAt : ℕ → List ℕ → Value
 valueAt at s = valueOf 0 at s
 
--- one entry of kind y at `at`
-unfoldable pub coded : ℕ → Field → Field
-coded y (Read v c) = Read (code y v) c
-coded y (Refused r) = Refused r
+-- a number, as an entry of kind y
+unfoldable pub coded : ℕ → Taken → Taken
+coded y (Read v at) = Read (code y v) at
+coded y Fault = Fault
 
 -- one entry at `at`, where s stands: a number (kind 0) or a token (kind 1)
-unfoldable pub entryAt : ℕ → ℕ → List ℕ → Field
+unfoldable pub entryAt : ℕ → ℕ → List ℕ → Taken
 entryAt zero at s = numberFrom 0 0 at s
-entryAt (suc y) at [] = Refused 4
+entryAt (suc y) at [] = Fault
 entryAt (suc y) at (b ∷ s) = elim (eqb b 120) [ true ↦ coded 2 (numberFrom 0 0 (at + 1) s) | false ↦ coded 1 (numberFrom 0 0 at (b ∷ s)) ]
-
--- a field's number has at most eight digits
-abbrev pub fieldBelow : Field → Type 0
-fieldBelow (Read v c) = v < 100000000
-fieldBelow (Refused r) = Unit {0}

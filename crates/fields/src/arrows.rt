@@ -3,13 +3,18 @@ ghost use mathlib.Core.Path.{_≡_};
 ghost use Prim.Native.Nat.{ℕ, _+_, _-_, _≤_, _<_};
 ghost use lib.ListN.{length, getD};
 ghost use mathlib.Core.Bool.{false};
-ghost use Rattle.fields.specs.Said.{ArrowLine};
+ghost use Rattle.paper.specs.Limits.{mostArity};
+ghost use Rattle.fields.specs.Line.{rowAt, Standing};
+ghost use Rattle.fields.specs.Said.{Placed, ArrowLine};
 ghost use Rattle.fields.specs.Trans.{argIn};
 use crate::cursor::Cursor;
+use crate::cursor::Sort;
 use crate::lists::Listed;
+use crate::lists::ROOM;
 use crate::lists::list_refusal;
-use crate::lists::narrow;
-use crate::rows::index;
+use crate::rows::Row;
+use sets::index;
+use tables::SYMBOLS;
 
 // A transition: its symbol, its arguments (0 past the symbol's arity) and its target.
 pub struct Trans {
@@ -20,14 +25,14 @@ pub struct Trans {
     pub target: u8,
 }
 
-// A transition and the next place, or the refusal.
+// A transition and the next line, or the refusal.
 pub enum Arrow {
     Read { trans: Trans, next: Cursor },
     Refused(u8),
 }
 
 // The number at i, or 0 where it is the last of the line or past it.
-fn arg_in(items: [u8; 64], i: usize, count: usize) -> u8
+fn arg_in(items: [u8; ROOM], i: usize, count: usize) -> u8
     requires { ⌜ i < 64 ⌝ }
     ensures { λ r. ⌜ r ≡ argIn items i count ⌝ }
 {
@@ -38,21 +43,26 @@ fn arg_in(items: [u8; 64], i: usize, count: usize) -> u8
 }
 
 impl Cursor {
-    // A line of a transition.
+    // A line of a transition over symbols with these arities, and so many states.
     pub fn trans_line(
         self,
         file: &[u8],
-        key: &[u8],
-        arities: &[u8; 64],
+        row: Row,
+        arities: &[u8; SYMBOLS],
         symbols: u32,
         states: u32,
     ) -> Arrow
-        requires { ⌜ (symbols < 64) × (states < 64) ⌝ }
-        requires { ⌜ ((k : ℕ) → getD (now arities) k 0 ≤ 3) ⌝ }
-        requires { ⌜ symbols < length (now arities) ⌝ }
-        ensures { λ r. ⌜ ArrowLine (now (file .entry)) (now (key .entry)) (now (arities .entry)) (symbols + 1) (states + 1) (self .at) r ⌝ }
+        requires { ⌜ Standing row × (row .empty ≡ false) × Placed (now file) self ⌝ }
+        requires { ⌜ (1 ≤ symbols) × (symbols ≤ 64) ⌝ }
+        requires { ⌜ (1 ≤ states) × (states ≤ 64) ⌝ }
+        requires { ⌜ ((k : ℕ) → getD (now arities) k 0 ≤ mostArity) × (length (now arities) ≡ 64) ⌝ }
+        ensures { λ r. ⌜ ((kind : ℕ) → kind < 14 → row ≡ rowAt kind → ArrowLine (now (file .entry)) (now (arities .entry)) kind symbols states self r) ⌝ }
     {
-        let it = self.list_line(file, key, 0, symbols, states, false);
+        let sort = Sort::Numbers {
+            first: symbols - 1,
+            rest: states - 1,
+        };
+        let it = self.list_line(file, row, sort);
         let answer = it.answer;
         let Listed::Got {
             count,
@@ -62,11 +72,9 @@ impl Cursor {
         else {
             return Arrow::Refused(list_refusal(answer));
         };
-        let numbers = it.items;
-        let items = narrow(numbers);
+        let items = it.items;
         let symbol = items[0];
-        let s = index(symbol);
-        let arity = arities[s];
+        let arity = arities[index(symbol)];
         if count != index(arity) + 2 {
             return Arrow::Refused(6);
         }

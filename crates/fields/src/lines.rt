@@ -3,64 +3,80 @@ ghost use mathlib.Core.Path.{_≡_};
 ghost use Prim.Native.Nat.{_+_, _-_, _≤_, _<_, min};
 ghost use lib.ListN.{drop, take};
 ghost use mathlib.Core.Bool.{true, false};
+ghost use Rattle.paper.specs.Limits.{mostStates, lastState, mostArity, mostSymbols};
+ghost use Rattle.paper.specs.Certificate.{Arities, Merge};
+ghost use Rattle.paper.specs.Format.{fixed};
 ghost use Rattle.paper.specs.Tables.{arityList, finalList, classList};
-ghost use Rattle.fields.specs.Said.{keyed, FieldLine, Listing, FinalKind};
-ghost use Rattle.fields.specs.Line.{kindAt};
+ghost use Rattle.fields.specs.Said.{Placed, FieldLine, Listing, FinalKind};
+ghost use Rattle.fields.specs.Line.{kindAt, lineRow};
 ghost use Rattle.fields.specs.Lines.{itemsOf, entryLine, fewCheck, checked};
 ghost use Rattle.fields.specs.Merge.{bump, numbered};
+ghost use Rattle.fields.specs.declared.cursor.Sort.the-variants.{Tokens};
 use crate::cursor::Cursor;
 use crate::cursor::Field;
 use crate::cursor::Opened;
+use crate::cursor::Sort;
+use crate::cursor::Taken;
+use crate::cursor::number;
+use crate::cursor::refusal_at;
 use crate::lists::Items;
 use crate::lists::Listed;
+use crate::lists::ROOM;
 use crate::lists::refused_items;
 use crate::rows::ARITIES;
 use crate::rows::MERGE;
 use crate::rows::row_of;
-use crate::rows::wide;
 
 impl Cursor {
     // A whole line of one number in its row's range.
-    pub fn number_line(self, file: &[u8], key: &[u8], kind: usize) -> Field
+    pub fn number_line(self, file: &[u8], kind: usize) -> Field
         requires { ⌜ kind < 10 ⌝ }
-        ensures { λ r. ⌜ FieldLine (now (file .entry)) (now (key .entry)) (kindAt kind) (self .at) r ⌝ }
+        requires { ⌜ Placed (now file) self ⌝ }
+        ensures { λ r. ⌜ FieldLine (now (file .entry)) (kindAt kind) self r ⌝ }
     {
-        let Opened::At(c) = self.open(file, key) else {
+        let row = row_of(kind);
+        let Opened::At(at) = self.open(file, row) else {
             return Field::Refused(3);
         };
-        let Field::Read { value, next } = c.number(file) else {
-            return Field::Refused(4);
+        let Taken::Read { value, at: end } = number(file, at) else {
+            return Field::Refused(refusal_at(file, at, 4));
         };
-        let at = next.at;
-        if file.len() <= at {
-            return Field::Refused(4);
+        if file.len() <= end {
+            return Field::Refused(refusal_at(file, at, 4));
         }
-        if file[at] != 10 {
-            return Field::Refused(4);
+        if file[end] != b'\n' {
+            return Field::Refused(refusal_at(file, at, 4));
         }
-        let r = row_of(kind);
-        if value < r.least {
+        if value < row.least {
             return Field::Refused(5);
         }
-        if r.greatest < value {
+        if row.greatest < value {
             return Field::Refused(5);
         }
         Field::Read {
             value,
-            next: Cursor { at: at + 1 },
+            next: Cursor {
+                at: end + 1,
+                line: self.line + 1,
+            },
         }
     }
 
     // `final` and `badfinal`: states of an automaton, strictly ascending. Each is in its row's range and below `states`.
-    pub fn final_line(self, file: &[u8], key: &[u8], kind: usize, states: u32) -> Items
-        requires { ⌜ kind < 10 ⌝ }
-        requires { ⌜ FinalKind (kindAt kind) ⌝ }
-        requires { ⌜ (1 ≤ states) × (states ≤ 32) ⌝ }
-        ensures { λ r. ⌜ Listing (now (file .entry)) 31 (keyed (now (key .entry)) (finalList (kindAt kind) states) (drop (self .at) (now (file .entry)))) r ⌝ }
+    pub fn final_line(self, file: &[u8], kind: usize, states: u32) -> Items
+        requires { ⌜ (kind < 10) × FinalKind (kindAt kind) ⌝ }
+        requires { ⌜ (1 ≤ states) × (states ≤ mostStates) ⌝ }
+        requires { ⌜ Placed (now file) self ⌝ }
+        ensures { λ r. ⌜ Listing (now (file .entry)) lastState (self .line)
+            (fixed (kindAt kind) (λ K. finalList K states) (self .line) (drop (self .at) (now (file .entry)))) r ⌝ }
     {
         let row = row_of(kind);
         let most = lesser(row.greatest, states - 1);
-        let it = self.list_line(file, key, 0, most, most, row.empty);
+        let sort = Sort::Numbers {
+            first: most,
+            rest: most,
+        };
+        let it = self.list_line(file, row, sort);
         let answer = it.answer;
         let Listed::Got {
             count: _,
@@ -77,12 +93,18 @@ impl Cursor {
     }
 
     // `arities`.
-    pub fn arities_line(self, file: &[u8], key: &[u8]) -> Items
-        ensures { λ r. ⌜ Listing (now (file .entry)) 3 (keyed (now (key .entry)) arityList (drop (self .at) (now (file .entry)))) r ⌝ }
+    pub fn arities_line(self, file: &[u8]) -> Items
+        requires { ⌜ Placed (now file) self ⌝ }
+        ensures { λ r. ⌜ Listing (now (file .entry)) mostArity (self .line)
+            (fixed Arities (λ K. arityList) (self .line) (drop (self .at) (now (file .entry)))) r ⌝ }
     {
         let row = row_of(ARITIES);
         let most = row.greatest;
-        let it = self.list_line(file, key, 0, most, most, row.empty);
+        let sort = Sort::Numbers {
+            first: most,
+            rest: most,
+        };
+        let it = self.list_line(file, row, sort);
         let answer = it.answer;
         let Listed::Got {
             count,
@@ -92,7 +114,7 @@ impl Cursor {
         else {
             return it;
         };
-        if count <= wide(row.entries) {
+        if count <= row.entries as usize {
             return it;
         }
         refused_items(6)
@@ -110,8 +132,8 @@ fn lesser(a: u32, b: u32) -> u32
 }
 
 // The number of classes once v is seen, where there were k.
-fn bump_class(k: u32, v: u32) -> u32
-    requires { ⌜ k < 1000 ⌝ }
+fn bump_class(k: u8, v: u8) -> u8
+    requires { ⌜ k < 255 ⌝ }
     ensures { λ r. ⌜ r ≡ bump k v ⌝ }
 {
     if v == k {
@@ -121,11 +143,11 @@ fn bump_class(k: u32, v: u32) -> u32
 }
 
 // Whether each of the first n numbers is at most the number of classes before it.
-fn is_numbered(items: [u32; 64], n: usize) -> bool
+fn is_numbered(items: [u8; ROOM], n: usize) -> bool
     requires { ⌜ n ≤ 64 ⌝ }
     ensures { λ r. ⌜ r ≡ numbered 0 (take n items) ⌝ }
 {
-    let mut k: u32 = 0;
+    let mut k: u8 = 0;
     let mut i = 0;
     while i < n {
         let v = items[i];
@@ -140,13 +162,19 @@ fn is_numbered(items: [u32; 64], n: usize) -> bool
 
 impl Cursor {
     // `merge`: a class for each state, numbered as they come.
-    pub fn merge_line(self, file: &[u8], key: &[u8], states: usize) -> Items
-        requires { ⌜ states ≤ 32 ⌝ }
-        ensures { λ r. ⌜ Listing (now (file .entry)) 31 (keyed (now (key .entry)) (classList states) (drop (self .at) (now (file .entry)))) r ⌝ }
+    pub fn merge_line(self, file: &[u8], states: usize) -> Items
+        requires { ⌜ states ≤ mostStates ⌝ }
+        requires { ⌜ Placed (now file) self ⌝ }
+        ensures { λ r. ⌜ Listing (now (file .entry)) lastState (self .line)
+            (fixed Merge (λ K. classList states) (self .line) (drop (self .at) (now (file .entry)))) r ⌝ }
     {
         let row = row_of(MERGE);
         let most = row.greatest;
-        let it = self.list_line(file, key, 0, most, most, row.empty);
+        let sort = Sort::Numbers {
+            first: most,
+            rest: most,
+        };
+        let it = self.list_line(file, row, sort);
         let answer = it.answer;
         let Listed::Got {
             count,
@@ -166,11 +194,15 @@ impl Cursor {
         refused_items(11)
     }
 
-    // A term: 1 to 24 tokens, each coded as one number. `most` is the code of the last symbol.
-    pub fn term_line(self, file: &[u8], key: &[u8], most: u32) -> Items
-        ensures { λ r. ⌜ r ≡ itemsOf (checked (fewCheck 24) (entryLine 1 (now (key .entry)) most most false (now (file .entry)) (self .at))) ⌝ }
+    // A term of so many tokens at most as its row says, over so many symbols.
+    pub fn term_line(self, file: &[u8], kind: usize, symbols: u32) -> Items
+        requires { ⌜ (kind < 14) × (symbols ≤ mostSymbols) ⌝ }
+        requires { ⌜ Placed (now file) self ⌝ }
+        ensures { λ r. ⌜ r ≡ itemsOf (self .line)
+            (checked (fewCheck (lineRow kind .most)) (entryLine (Tokens symbols) (lineRow kind) (now (file .entry)) (self .at))) ⌝ }
     {
-        let it = self.list_line(file, key, 1, most, most, false);
+        let row = row_of(kind);
+        let it = self.list_line(file, row, Sort::Tokens { symbols });
         let answer = it.answer;
         let Listed::Got {
             count,
@@ -180,7 +212,7 @@ impl Cursor {
         else {
             return it;
         };
-        if count <= 24 {
+        if count <= row.entries as usize {
             return it;
         }
         refused_items(6)

@@ -1,18 +1,29 @@
 // Lists of numbers or tokens, parted by commas.
 ghost use mathlib.Core.Path.{_≡_};
 ghost use Prim.Native.Nat.{ℕ, _+_, _-_, _≤_, _<_, _^_};
-ghost use lib.ListN.{length, drop, set, getD};
+ghost use lib.ListN.{length, drop};
 ghost use lib.Dec.{eqb, ltb};
 ghost use mathlib.Core.Bool.{_&&_, _||_, true, false};
-ghost use Rattle.fields.specs.Value.{entriesFrom, valueOf};
+ghost use Rattle.fields.specs.Value.{entriesFrom, valueOf, sortKind};
+ghost use Rattle.fields.specs.Line.{lineRow, rowAt, Standing};
 ghost use Rattle.fields.specs.Lines.{itemsOf, entryLine};
-ghost use Rattle.fields.specs.Listed.{refusedItems, seenNone, seenWith, done, finish, listOf};
+ghost use Rattle.fields.specs.Listed.{refusedItems, exceeds as isBeyond, seenNone, seenWith, kept, done, listOf, Limited};
+ghost use Rattle.fields.specs.Said.{Placed};
 ghost use Rattle.fields.specs.Trans.{refusalIn};
 use crate::cursor::Cursor;
-use crate::cursor::Field;
 use crate::cursor::Opened;
+use crate::cursor::Sort;
+use crate::cursor::Taken;
+use crate::cursor::entry;
+use crate::cursor::refusal_at;
+use crate::rows::Row;
+use tables::LAST_VARIABLE;
+use tables::VARIABLE;
 
-// What a list's value says: how many numbers, whether each is above the one before, and the place after its LF.
+// How many entries of a list are kept; more than any line may have.
+pub const ROOM: usize = 64;
+
+// What a list's value says: how many entries, whether each is above the one before, and the next line.
 pub enum Listed {
     Got {
         count: usize,
@@ -22,19 +33,18 @@ pub enum Listed {
     Refused(u8),
 }
 
-// The same with the first 64 numbers. An enum holds no array, so they stand beside it.
+// The same with the first 64 entries. An enum holds no array, so they stand beside it.
 pub struct Items {
     pub answer: Listed,
-    pub items: [u32; 64],
+    pub items: [u8; ROOM],
 }
 
-// What is known of the numbers that were read so far.
+// What is known of the entries that were read so far.
 pub struct Seen {
     pub count: usize,
     pub last: u32,
     pub over: bool,
     pub ascending: bool,
-    pub items: [u32; 64],
 }
 
 // A refusal, with zeros beside it.
@@ -43,7 +53,7 @@ pub fn refused_items(n: u8) -> Items
 {
     Items {
         answer: Listed::Refused(n),
-        items: [0u32; 64],
+        items: [0u8; ROOM],
     }
 }
 
@@ -56,21 +66,43 @@ fn seen_none() -> Seen
         last: 0,
         over: false,
         ascending: true,
-        items: [0u32; 64],
     }
 }
 
-// Whether a number was out of range, this one included.
-fn over_with(over: bool, value: u32, most: u32) -> bool
-    ensures { λ r. ⌜ r ≡ over || ltb most value ⌝ }
+// Whether an entry, perhaps the first of its line, is past its limit.
+fn exceeds(sort: Sort, begins: bool, value: u32) -> bool
+    ensures { λ r. ⌜ r ≡ isBeyond sort begins value ⌝ }
+{
+    match sort {
+        Sort::Numbers { first, rest } => {
+            if begins {
+                return first < value;
+            }
+            rest < value
+        }
+        Sort::Tokens { symbols } => {
+            if value < symbols {
+                return false;
+            }
+            if value < VARIABLE as u32 {
+                return true;
+            }
+            VARIABLE as u32 + (LAST_VARIABLE as u32) < value
+        }
+    }
+}
+
+// Whether an entry was past its limit, this one included.
+fn over_with(over: bool, sort: Sort, begins: bool, value: u32) -> bool
+    ensures { λ r. ⌜ r ≡ over || isBeyond sort begins value ⌝ }
 {
     if over {
         return true;
     }
-    most < value
+    exceeds(sort, begins, value)
 }
 
-// Whether the numbers ascend, this one included.
+// Whether the entries ascend, this one included.
 fn ascending_with(ascending: bool, count: usize, last: u32, value: u32) -> bool
     ensures { λ r. ⌜ r ≡ ascending && (eqb count 0 || ltb last value) ⌝ }
 {
@@ -83,126 +115,116 @@ fn ascending_with(ascending: bool, count: usize, last: u32, value: u32) -> bool
     false
 }
 
-// The numbers with this one; those past 64 are left out.
-fn items_with(items: [u32; 64], count: usize, value: u32) -> [u32; 64]
-    ensures { λ r. ⌜ r ≡ set items count value ⌝ }
-{
-    if count < 64 {
-        let mut next = items;
-        next[count] = value;
-        return next;
-    }
-    items
-}
-
-// What is known with one more number, which may be at most `most`.
-fn seen_with(s: Seen, value: u32, most: u32) -> Seen
+// What is known with one more entry.
+fn seen_with(s: Seen, sort: Sort, value: u32) -> Seen
     requires { ⌜ s .count < 2 ^ 63 ⌝ }
-    ensures { λ r. ⌜ r ≡ seenWith s value most ⌝ }
+    ensures { λ r. ⌜ r ≡ seenWith sort s value ⌝ }
 {
     let count = s.count;
-    let over = over_with(s.over, value, most);
+    let over = over_with(s.over, sort, count == 0, value);
     let ascending = ascending_with(s.ascending, count, s.last, value);
-    let old = s.items;
-    let items = items_with(old, count, value);
     Seen {
         count: count + 1,
         last: value,
         over,
         ascending,
-        items,
     }
 }
 
-// What is handed over at the end of the value.
-fn finish_list(s: Seen, next: usize) -> Items
-    ensures { λ r. ⌜ r ≡ done s next ⌝ }
+// Keeps an entry where there is room for it and it is a byte.
+fn keep(items: &mut [u8; ROOM], i: usize, value: u32)
+    requires { ⌜ length (now items) ≡ 64 ⌝ }
+    ensures { λ r. ⌜ now (items .exit) ≡ kept (now (items .entry)) i value ⌝ }
+{
+    if value < 256 {
+        if i < ROOM {
+            items[i] = value as u8;
+        }
+    }
+}
+
+// What is handed over at the end of a value.
+fn finish_list(s: Seen, items: [u8; ROOM], next: Cursor) -> Items
+    ensures { λ r. ⌜ r ≡ done s items next ⌝ }
 {
     let over = s.over;
     if over {
         return refused_items(5);
     }
-    let items = s.items;
     Items {
         answer: Listed::Got {
             count: s.count,
             ascending: s.ascending,
-            next: Cursor { at: next },
+            next,
         },
         items,
     }
 }
 
 impl Cursor {
-    // The numbers of a list that has one at least. The first is at most `first`, and each other at most `rest`.
-    fn entries(self, file: &[u8], y: u32, first: u32, rest: u32) -> Items
-        requires { ⌜ self .at < length (now file) ⌝ }
-        requires { ⌜ y ≤ 1 ⌝ }
-        ensures { λ r. ⌜ r ≡ finish seenNone first rest (entriesFrom y 0 0 (self .at) (drop (self .at) (now (file .entry)))) ⌝ }
+    // The entries of a list that has one at least, from `from` on.
+    fn entries(self, file: &[u8], from: usize, sort: Sort) -> Items
+        requires { ⌜ Placed (now file) self ⌝ }
+        requires { ⌜ Limited sort × (from < length (now file)) ⌝ }
+        ensures { λ r. ⌜ r ≡ listOf (self .line) sort (entriesFrom (sortKind sort) 0 0 from (drop from (now (file .entry)))) ⌝ }
     {
-        let mut c = self;
+        let mut at = from;
         let mut seen = seen_none();
-        let mut most = first;
+        let mut items = [0u8; ROOM];
         loop {
-            let Field::Read { value, next } = c.entry(file, y) else {
+            let Taken::Read { value, at: end } = entry(file, at, sort) else {
                 return refused_items(4);
             };
-            seen = seen_with(seen, value, most);
-            most = rest;
-            let at = next.at;
-            if file.len() <= at {
+            keep(&mut items, seen.count, value);
+            seen = seen_with(seen, sort, value);
+            if file.len() <= end {
                 return refused_items(4);
             }
-            let b = file[at];
-            if b == 10 {
-                return finish_list(seen, at + 1);
+            let b = file[end];
+            if b == b'\n' {
+                let next = Cursor {
+                    at: end + 1,
+                    line: self.line + 1,
+                };
+                return finish_list(seen, items, next);
             }
-            if b != 44 {
+            if b != b',' {
                 return refused_items(4);
             }
-            c = Cursor { at: at + 1 };
+            at = end + 1;
         }
     }
-}
 
-impl Cursor {
     // The value of a list, from its first byte to its LF.
-    pub fn list(self, file: &[u8], y: u32, first: u32, rest: u32) -> Items
-        requires { ⌜ y ≤ 1 ⌝ }
-        ensures { λ r. ⌜ r ≡ listOf first rest (valueOf y (self .at) (drop (self .at) (now (file .entry)))) ⌝ }
+    fn list(self, file: &[u8], at: usize, sort: Sort) -> Items
+        requires { ⌜ Placed (now file) self ⌝ }
+        requires { ⌜ Limited sort ⌝ }
+        ensures { λ r. ⌜ r ≡ listOf (self .line) sort (valueOf (sortKind sort) at (drop at (now (file .entry)))) ⌝ }
     {
-        let at = self.at;
         if file.len() <= at {
             return refused_items(4);
         }
-        if file[at] == 10 {
-            return finish_list(seen_none(), at + 1);
+        if file[at] == b'\n' {
+            let next = Cursor {
+                at: at + 1,
+                line: self.line + 1,
+            };
+            return finish_list(seen_none(), [0u8; ROOM], next);
         }
-        Cursor { at }.entries(file, y, first, rest)
+        self.entries(file, at, sort)
     }
-}
 
-impl Cursor {
     // A whole list line: its key, its value and its LF.
-    pub fn list_line(
-        self,
-        file: &[u8],
-        key: &[u8],
-        y: u32,
-        first: u32,
-        rest: u32,
-        empty: bool,
-    ) -> Items
-        requires { ⌜ y ≤ 1 ⌝ }
-        ensures { λ r. ⌜ r ≡ itemsOf (entryLine y (now (key .entry)) first rest empty (now (file .entry)) (self .at)) ⌝ }
+    pub fn list_line(self, file: &[u8], row: Row, sort: Sort) -> Items
+        requires { ⌜ Standing row ⌝ }
+        requires { ⌜ Placed (now file) self × Limited sort ⌝ }
+        ensures { λ r. ⌜ ((kind : ℕ) → kind < 14 → row ≡ rowAt kind
+            → r ≡ itemsOf (self .line) (entryLine sort (lineRow kind) (now (file .entry)) (self .at))) ⌝ }
     {
-        let Opened::At(c) = self.open(file, key) else {
+        let Opened::At(at) = self.open(file, row) else {
             return refused_items(3);
         };
-        let it = c.list(file, y, first, rest);
-        if empty {
-            return it;
-        }
+        let it = self.list(file, at, sort);
         let answer = it.answer;
         let Listed::Got {
             count,
@@ -210,12 +232,15 @@ impl Cursor {
             next: _,
         } = answer
         else {
-            return it;
+            return refused_items(refusal_at(file, at, list_refusal(answer)));
         };
-        if count == 0 {
-            return refused_items(4);
+        if 0 < count {
+            return it;
         }
-        it
+        if row.empty {
+            return it;
+        }
+        refused_items(4)
     }
 }
 
@@ -231,26 +256,4 @@ pub fn list_refusal(a: Listed) -> u8
         } => 0,
         Listed::Refused(n) => n,
     }
-}
-
-// A number that fits into a byte.
-pub fn byte(x: u32) -> u8
-    requires { ⌜ x < 256 ⌝ }
-    ensures { λ r. ⌜ r ≡ x ⌝ }
-{
-    x as u8
-}
-
-// The same numbers as bytes.
-pub fn narrow(items: [u32; 64]) -> [u8; 64]
-    requires { ⌜ ((k : ℕ) → getD items k 0 < 256) ⌝ }
-    ensures { λ r. ⌜ r ≡ items ⌝ }
-{
-    let mut bytes = [0u8; 64];
-    let mut i = 0;
-    while i < 64 {
-        bytes[i] = byte(items[i]);
-        i += 1;
-    }
-    bytes
 }

@@ -1,78 +1,146 @@
-// The table of the ten fixed lines.
+// The table of lines: the ten fixed ones, and the four that come as often as a count says.
 ghost use mathlib.Core.Path.{_≡_};
 ghost use Prim.Native.Nat.{_-_, _<_};
 ghost use mathlib.Core.Bool.{true, false};
-ghost use Rattle.paper.specs.Certificate.{row};
 ghost use Rattle.fields.specs.Line.{rowAt};
+use tables::ARITY;
+use tables::LAST_VARIABLE;
+use tables::ROW;
+use tables::RULES as MOST_RULES;
+use tables::SIDE;
+use tables::STATES as MOST_STATES;
+use tables::SYMBOLS;
+use tables::TRANSITIONS;
+use tables::VARIABLE;
 
-// A row of the table of lines: the least and the greatest number, how many entries at most, and whether none is allowed.
+// How long the longest key is, with its `=`, and how many kinds of lines there are.
+pub const KEY: usize = 10;
+
+pub const KINDS: usize = 14;
+
+// A row of the table: the line's key with its `=`, 0 behind it, and how long that is; the least and the greatest number, how many entries at
+// most, and whether none is allowed. In a line of tokens the numbers are the tokens' bytes.
 pub struct Row {
+    pub key: [u8; KEY],
+    pub length: u8,
+    pub empty: bool,
     pub least: u32,
     pub greatest: u32,
     pub entries: u32,
-    pub empty: bool,
 }
 
-const ROWS: [Row; 10] = [
+const ROWS: [Row; KINDS] = [
     Row {
+        key: *b"budget=\0\0\0",
+        length: 7,
+        empty: false,
         least: 0,
         greatest: 33554432,
         entries: 1,
-        empty: false,
     },
     Row {
+        key: *b"arities=\0\0",
+        length: 8,
+        empty: false,
         least: 0,
-        greatest: 3,
-        entries: 64,
-        empty: false,
+        greatest: ARITY as u32,
+        entries: SYMBOLS as u32,
     },
     Row {
+        key: *b"states=\0\0\0",
+        length: 7,
+        empty: false,
         least: 1,
-        greatest: 32,
+        greatest: MOST_STATES as u32,
         entries: 1,
-        empty: false,
     },
     Row {
-        least: 0,
-        greatest: 31,
-        entries: 32,
+        key: *b"final=\0\0\0\0",
+        length: 6,
         empty: true,
-    },
-    Row {
         least: 0,
-        greatest: 128,
-        entries: 1,
-        empty: false,
+        greatest: MOST_STATES as u32 - 1,
+        entries: MOST_STATES as u32,
     },
     Row {
+        key: *b"trans=\0\0\0\0",
+        length: 6,
+        empty: false,
+        least: 0,
+        greatest: TRANSITIONS as u32,
+        entries: 1,
+    },
+    Row {
+        key: *b"badstates=",
+        length: 10,
+        empty: false,
         least: 1,
-        greatest: 32,
+        greatest: MOST_STATES as u32,
         entries: 1,
-        empty: false,
     },
     Row {
-        least: 0,
-        greatest: 31,
-        entries: 32,
+        key: *b"badfinal=\0",
+        length: 9,
         empty: true,
+        least: 0,
+        greatest: MOST_STATES as u32 - 1,
+        entries: MOST_STATES as u32,
     },
     Row {
+        key: *b"badtrans=\0",
+        length: 9,
+        empty: false,
         least: 0,
-        greatest: 128,
+        greatest: TRANSITIONS as u32,
         entries: 1,
-        empty: false,
     },
     Row {
+        key: *b"rules=\0\0\0\0",
+        length: 6,
+        empty: false,
         least: 0,
-        greatest: 32,
+        greatest: MOST_RULES as u32,
         entries: 1,
-        empty: false,
     },
     Row {
-        least: 0,
-        greatest: 31,
-        entries: 32,
+        key: *b"merge=\0\0\0\0",
+        length: 6,
         empty: false,
+        least: 0,
+        greatest: MOST_STATES as u32 - 1,
+        entries: MOST_STATES as u32,
+    },
+    Row {
+        key: *b"t=\0\0\0\0\0\0\0\0",
+        length: 2,
+        empty: false,
+        least: 0,
+        greatest: SYMBOLS as u32 - 1,
+        entries: ROW as u32,
+    },
+    Row {
+        key: *b"u=\0\0\0\0\0\0\0\0",
+        length: 2,
+        empty: false,
+        least: 0,
+        greatest: SYMBOLS as u32 - 1,
+        entries: ROW as u32,
+    },
+    Row {
+        key: *b"l=\0\0\0\0\0\0\0\0",
+        length: 2,
+        empty: false,
+        least: 0,
+        greatest: VARIABLE as u32 + LAST_VARIABLE as u32,
+        entries: SIDE as u32,
+    },
+    Row {
+        key: *b"r=\0\0\0\0\0\0\0\0",
+        length: 2,
+        empty: false,
+        least: 0,
+        greatest: VARIABLE as u32 + LAST_VARIABLE as u32,
+        entries: SIDE as u32,
     },
 ];
 
@@ -97,24 +165,18 @@ pub const RULES: usize = 8;
 
 pub const MERGE: usize = 9;
 
+pub const TRANSITION: usize = 10;
+
+pub const BAD_TRANSITION: usize = 11;
+
+pub const LEFT: usize = 12;
+
+pub const RIGHT: usize = 13;
+
 // A line's row.
 pub fn row_of(kind: usize) -> Row
-    requires { ⌜ kind < 10 ⌝ }
+    requires { ⌜ kind < 14 ⌝ }
     ensures { λ r. ⌜ r ≡ rowAt kind ⌝ }
 {
     ROWS[kind]
-}
-
-// A number as an index.
-pub fn wide(x: u32) -> usize
-    ensures { λ r. ⌜ r ≡ x ⌝ }
-{
-    x as usize
-}
-
-// A byte as an index.
-pub fn index(x: u8) -> usize
-    ensures { λ r. ⌜ r ≡ x ⌝ }
-{
-    x as usize
 }

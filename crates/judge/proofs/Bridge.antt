@@ -24,7 +24,7 @@ use Rattle.tables.specs.Held.{moveAt, movesOf, members, automatonOf, aritiesOf,
 use Rattle.tables.specs.Sound.{Sound}
 use Rattle.tables.proofs.Moves.{row-move, map-same, moves-take, moves-count}
 use Rattle.tables.proofs.Members.{members-sound, members-complete}
-use Rattle.sharing.specs.Share.{flat, Exact, Tables as Shareable}
+use Rattle.sharing.specs.Share.{flat, Exact, Shareable}
 use Rattle.judge.specs.Merged.{Merged, finalClass}
 use Rattle.judge.specs.Pairs.{sharedOf}
 use Rattle.judge.specs.Judged.{mergedOf, badOf}
@@ -103,7 +103,8 @@ module _ (t : Tables) (m : Merging) (s : Sound t m) where
         let byte : ℕ → ℕ = λ q. getD (m .merge) q 0 in
         same-transition
         (symbol-at i h)
-        (ap₂ (λ (f : ℕ) (l : List ℕ). take (getD ar f 0) l) (symbol-at i h) (three (state-at i 1 h (omega arith) (omega arith)) (state-at i 2 h (omega arith) (omega arith)) (state-at i 3 h (omega arith) (omega arith)))
+        (ap₂ (λ (f : ℕ) (l : List ℕ). take (getD ar f 0) l) (symbol-at i h)
+        (three (state-at i 1 h (omega arith) (omega arith)) (state-at i 2 h (omega arith) (omega arith)) (state-at i 3 h (omega arith) (omega arith)))
         ∙ (sym (map-take byte (getD ar (getD rows (i * 5) 0) 0) (getD rows (i * 5 + 1) 0 ∷ (getD rows (i * 5 + 2) 0 ∷ (getD rows (i * 5 + 3) 0 ∷ []))))
         ∙ sym (map-on (classOf (mergeOf t m)) byte _ (λ q n. class-inside q (good .arguments q n)))))
         (state-at i 4 h (omega arith) (omega arith) ∙ sym (class-inside (getD rows (i * 5 + 4) 0) (good .target)))
@@ -114,13 +115,19 @@ module _ (t : Tables) (m : Merging) (s : Sound t m) where
     -- The merged rows are the merged automaton's transitions.
     pub moves-merged : movesOf ar bytes (t .initial .count) ≡ mergedOf t m .transitions
     unfolding movesOf merged automatonOf
-    moves-merged = map-same (moveAt ar bytes) (λ i. mergeTransition (mergeOf t m) (moveAt ar (t .initial .rows) i)) 0 (t .initial .count) (λ i l u. row-merged i (omega arith)) ∙ sym (map-map (mergeTransition (mergeOf t m)) (moveAt ar (t .initial .rows)) (countFrom 0 (t .initial .count)))
+    moves-merged =
+        let merge = mergeTransition (mergeOf t m) in
+        let move = moveAt ar (t .initial .rows) in
+        map-same (moveAt ar bytes) (λ i. merge (move i)) 0 (t .initial .count) (λ i l u. row-merged i (omega arith))
+        ∙ sym (map-map merge move (countFrom 0 (t .initial .count)))
 
   -- The mask of final classes has the merged automaton's.
   pub finals-merged : (mask : ℕ) → mem mask ≡ finalClass (t .initial .finals) (m .merge) (t .initial .states) → (q : ℕ) → (mem mask q ≡ true) ↔ List·Memᴰ q (mergedOf t m .final)
   unfolding finalClass merged automatonOf
   finals-merged mask e q =
-      let same : map (λ r. getD (m .merge) r 0) (members (t .initial .finals) 0 (t .initial .states)) ≡ map (classOf (mergeOf t m)) (members (t .initial .finals) 0 (t .initial .states)) = map-on _ _ _ (λ r n. sym (class-inside r (omega (arith, members-sound (t .initial .finals) 0 (t .initial .states) n .1)))) in
+      let finals = members (t .initial .finals) 0 (t .initial .states) in
+      let same : map (λ r. getD (m .merge) r 0) finals ≡ map (classOf (mergeOf t m)) finals =
+      map-on _ _ _ (λ r n. sym (class-inside r (omega (arith, members-sound (t .initial .finals) 0 (t .initial .states) n .1)))) in
       let (to, from) = listed-iff q (mergedOf t m .final) in
       (λ h. to (sym (ap (λ l. any l (eqb q)) same) ∙ (sym (ap (λ (f : ℕ → Bool). f q) e) ∙ h)), λ n. ap (λ (f : ℕ → Bool). f q) e ∙ (ap (λ l. any l (eqb q)) same ∙ from n))
 
@@ -156,8 +163,10 @@ module _ (t : Tables) (m : Merging) (s : Sound t m) where
     )
 
     -- What is found over the marked pairs is the pair that the paper names.
-    pub found-is : (pairs : List ℕ) → Exact here there ar pairs → (mask : ℕ) → mem mask ≡ finalClass (t .initial .finals) (m .merge) (t .initial .states) → sharedOf pairs mask (t .bad .finals) 0 (m .classes) (t .bad .states) ≡ sharing (mergedOf t m) (badOf t)
+    pub found-is : (pairs : List ℕ) → Exact here there ar pairs → (mask : ℕ) → mem mask ≡ finalClass (t .initial .finals) (m .merge) (t .initial .states)
+        → sharedOf pairs mask (t .bad .finals) 0 (m .classes) (t .bad .states) ≡ sharing (mergedOf t m) (badOf t)
     unfolding merged automatonOf held
     found-is pairs e mask f =
         ap (λ k. sharedOf pairs mask (t .bad .finals) 0 k (t .bad .states)) (s .classes)
-        ∙ shared-is (mergedOf t m) (badOf t) (merged-in-range (mergeOf t m) (automatonOf ar (t .initial))) (in-range (s .well .B)) (final-classes (mergeOf t m) (automatonOf ar (t .initial))) (s .well .B .final) pairs mask (t .bad .finals) (marked pairs e) (finals-merged mask f) finals-bad
+        ∙ shared-is (mergedOf t m) (badOf t) (merged-in-range (mergeOf t m) (automatonOf ar (t .initial))) (in-range (s .well .B))
+        (final-classes (mergeOf t m) (automatonOf ar (t .initial))) (s .well .B .final) pairs mask (t .bad .finals) (marked pairs e) (finals-merged mask f) finals-bad

@@ -73,17 +73,17 @@ module _ (finals : ℕ) (merge : List ℕ) where
       ap (λ l. any (map (λ s. getD merge s 0) l) (eqb q)) parts
       ∙ (ap (λ l. any l (eqb q)) (map-append (λ s. getD merge s 0) (members finals 0 n) (members finals n 1)) ∙ some-append (map (λ s. getD merge s 0) (members finals 0 n)) _ (eqb q))
 
-  module _ (n : ℕ) where
-    pub final-on : (classes classes′ : ℕ) → mem classes ≡ finalClass finals merge n → mem finals n ≡ true → mem classes′ ≡ plus (mem classes) (getD merge n 0) → mem classes′ ≡ finalClass finals merge (n + 1)
-    unfolding members any
-    final-on classes classes′ inv e said = said ∙ fun-ext (λ q. ap₂ (λ (a b : Bool). a || b) (ap (λ (s : Set). s q) inv) (eqb-sym (getD merge n 0) q ∙ sym (or-false (eqb q (getD merge n 0)))) ∙ (sym (more n q ∙ last q) ∙ ap (λ k. finalClass finals merge k q) (omega arith)))
-      where
-        last : (q : ℕ) → (finalClass finals merge n q || any (map (λ s. getD merge s 0) (members finals n 1)) (eqb q)) ≡ (finalClass finals merge n q || (eqb q (getD merge n 0) || false))
-        last q = rw (e, members)
+  -- The class of a final state is added, and nothing for another state.
+  next : (n q : ℕ) → finalClass finals merge (n + 1) q ≡ (finalClass finals merge n q || any (map (λ s. getD merge s 0) (members finals n 1)) (eqb q))
+  next n q = ap (λ k. finalClass finals merge k q) (omega arith) ∙ more n q
 
-    pub final-off : (classes : ℕ) → mem classes ≡ finalClass finals merge n → mem finals n ≡ false → mem classes ≡ finalClass finals merge (n + 1)
-    unfolding members any
-    final-off classes inv e = inv ∙ fun-ext (λ q. sym (or-false (finalClass finals merge n q)) ∙ (sym (more n q ∙ last q) ∙ ap (λ k. finalClass finals merge k q) (omega arith)))
-      where
-        last : (q : ℕ) → (finalClass finals merge n q || any (map (λ s. getD merge s 0) (members finals n 1)) (eqb q)) ≡ (finalClass finals merge n q || false)
-        last q = rw (e, members)
+  pub final-on : (n classes classes′ : ℕ) → mem classes ≡ finalClass finals merge n → mem finals n ≡ true → mem classes′ ≡ plus (mem classes) (getD merge n 0)
+      → mem classes′ ≡ finalClass finals merge (n + 1)
+  unfolding members any
+  final-on n classes classes′ inv e said = said ∙ fun-ext (λ q.
+      ap₂ (λ (a b : Bool). a || b) (ap (λ (s : Set). s q) inv) (eqb-sym (getD merge n 0) q ∙ sym (or-false (eqb q (getD merge n 0))))
+      ∙ sym (next n q ∙ rw (e, members)))
+
+  pub final-off : (n classes : ℕ) → mem classes ≡ finalClass finals merge n → mem finals n ≡ false → mem classes ≡ finalClass finals merge (n + 1)
+  unfolding members any
+  final-off n classes inv e = inv ∙ fun-ext (λ q. sym (or-false (finalClass finals merge n q)) ∙ sym (next n q ∙ rw (e, members)))

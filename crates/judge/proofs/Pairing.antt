@@ -69,11 +69,14 @@ module _ (M B : Automaton) (inM : InRange M) (inB : InRange B) (finM : FinalInRa
   unfolding partner
   mate-none q e p w =
       let f = final-class q .1 (w .class) in
-      smallest-none (λ p. mem (getD pairs q 0) p && mem bad p) 0 (B .states) (rw (f, partner) at e) p (omega arith) (omega (arith, finB p (w .state))) (and-eq-true-iff _ _ .1 (marked q p .1 (w .shared), final-state p (finB p (w .state)) .1 (w .state)))
+      smallest-none (λ p. mem (getD pairs q 0) p && mem bad p) 0 (B .states) (rw (f, partner) at e) p (omega arith) (omega (arith, finB p (w .state)))
+      (and-eq-true-iff _ _ .1 (marked q p .1 (w .shared), final-state p (finB p (w .state)) .1 (w .state)))
 
   pub shared-is : sharedOf pairs finals bad 0 (M .states) (B .states) ≡ sharing M B
   unfolding SharingMeans Suitable
-  shared-is = sym (sharing-exact M B inM inB finM finB (sharedOf pairs finals bad 0 (M .states) (B .states)) .1 (go (sharedOf pairs finals bad 0 (M .states) (B .states)) (first pairs finals bad (B .states) 0 (M .states))))
+  shared-is =
+      let found = sharedOf pairs finals bad 0 (M .states) (B .states) in
+      sym (sharing-exact M B inM inB finM finB found .1 (go found (first pairs finals bad (B .states) 0 (M .states))))
     where
       go : (o : Sharing) → First pairs finals bad (B .states) 0 (M .states) o → SharingMeans M B o
       go Sharing.nothing (nobody h) = λ q p f g s. mate-none q (h q (omega arith) (omega (arith, finM q f))) p (record { class = f; state = g; shared = s })

@@ -14,11 +14,11 @@ use Rattle.paper.specs.Meaning.{Sharing, Asked, together}
 use Rattle.paper.specs.Computed.{cases, sharing, examine, closure, judge, verdict, sharingIn, closureIn}
 use Rattle.tables.specs.declared.Tables.{Tables}
 use Rattle.tables.specs.declared.Merging.{Merging}
-use Rattle.tables.specs.Held.{automatonOf as tableOf, aritiesOf, rulesOf, mergeOf, held}
+use Rattle.tables.specs.Held.{automatonOf, aritiesOf, rulesOf, mergeOf, held}
 use Rattle.tables.specs.Sound.{Sound}
 use Rattle.woven.specs.Woven.{Flat, Indexed, SameMoves}
-use Rattle.woven.proofs.Members.{examine-same}
-use Rattle.lanes.specs.Automaton.{automatonOf}
+use Rattle.paper.proofs.SameTransitions.{examine-same}
+use Rattle.lanes.specs.Automaton.{wovenAutomaton}
 use Rattle.search.specs.Searched.{Searchable}
 use Rattle.verdicts.specs.declared.Closure.{Closure}
 use Rattle.verdicts.specs.Said.{Tells}
@@ -45,20 +45,20 @@ module _ (t : Tables) (m : Merging) (s : Sound t m) where
 
     module _ (words heads : List ℕ) (indexed : Indexed words heads) (same : SameMoves bytes words heads (t .initial .count)) where
       abbrev woven : Automaton
-      woven = automatonOf ar words heads (m .classes)
+      woven = wovenAutomaton ar words heads (m .classes)
 
       -- The words mean the merged automaton's transitions.
       there : Contained woven (mergedOf t m)
-      unfolding automatonOf
+      unfolding wovenAutomaton
       there tr n = rw (moves-merged t m s bytes w) at (same .same ar tr .0 n)
 
       back : Contained (mergedOf t m) woven
-      unfolding automatonOf
+      unfolding wovenAutomaton
       back tr n = same .same ar tr .1 (rw (← moves-merged t m s bytes w) at n)
 
       inside : InRange woven
-      unfolding automatonOf merged
-      inside = record { targets = λ tr n. omega (arith, s .classes, merged-in-range (mergeOf t m) (tableOf ar (t .initial)) .targets tr (there tr n)) }
+      unfolding wovenAutomaton merged
+      inside = record { targets = λ tr n. omega (arith, s .classes, merged-in-range (mergeOf t m) (automatonOf ar (t .initial)) .targets tr (there tr n)) }
 
       few-rules : t .rules .count ≤ mostRules
       unfolding held rulesOf
@@ -66,11 +66,11 @@ module _ (t : Tables) (m : Merging) (s : Sound t m) where
 
       -- The search relies on nothing else.
       pub searchable : Searchable ar words heads (t .rules) (m .classes)
-      unfolding held classes automatonOf
+      unfolding held classes wovenAutomaton
       searchable = record {
         indexed = indexed;
         in-range = inside;
-        arguments = λ tr n c l. omega (arith, s .classes, arguments-low (mergeOf t m) (tableOf ar (t .initial)) tr (there tr n) c l);
+        arguments = λ tr n c l. omega (arith, s .classes, arguments-low (mergeOf t m) (automatonOf ar (t .initial)) tr (there tr n) c l);
         ranks = rank t m s;
         sound = s .rules;
         shaped = λ rule n. s .well .rules rule n .shaped;
@@ -82,8 +82,10 @@ module _ (t : Tables) (m : Merging) (s : Sound t m) where
 
       -- What it says is what the paper says of the merged automaton.
       closure-is : (budget : ℕ) → closure woven (rulesOf ar (t .rules)) budget ≡ closure (mergedOf t m) (rulesOf ar (t .rules)) budget
-      unfolding closure automatonOf merged
-      closure-is budget = examine-same woven (mergedOf t m) there back (s .classes) (cases (m .classes) 0 (rulesOf ar (t .rules))) budget 0 ∙ ap (λ k. examine (mergedOf t m) (cases k 0 (rulesOf ar (t .rules))) budget 0) (s .classes)
+      unfolding closure wovenAutomaton merged
+      closure-is budget =
+          examine-same woven (mergedOf t m) there back (s .classes) (cases (m .classes) 0 (rulesOf ar (t .rules))) budget 0
+          ∙ ap (λ k. examine (mergedOf t m) (cases k 0 (rulesOf ar (t .rules))) budget 0) (s .classes)
 
       -- So what it tells is told of the merged automaton.
       pub closure-told : (budget : ℕ) {r : Closure} → Tells (Asked.answered (closure woven (rulesOf ar (t .rules)) budget)) r

@@ -1,3 +1,4 @@
+-- The definitions that the contracts of `judge` cite.
 pub mod Merged
 pub mod Pairs
 pub mod Judged

@@ -1,10 +1,11 @@
 -- The merged table, byte by byte.
-use Prim.Native.Nat.{ℕ, _%_, _≤_, _<_}
+use Prim.Native.Nat.{ℕ, _*_, _%_, _≤_, _<_}
 use mathlib.Core.Bool.{Bool, cond}
 use mathlib.Core.List.{List, map}
 use mathlib.Core.Path.{_≡_}
 use lib.Dec.{eqb}
 use lib.ListN.{length, getD}
+use Rattle.paper.specs.Limits.{mostTransitions}
 use Rattle.theory.specs.Lists.{any}
 use Rattle.tables.specs.Held.{members}
 
@@ -14,7 +15,7 @@ mergedByte rows merge at = cond (eqb (at % 5) 0) (getD rows at 0) (getD merge (g
 
 -- The first n bytes are merged, the rest is 0, and every byte is below 64.
 pub record Merged (rows merge : List ℕ) (n : ℕ) (bytes : List ℕ) : Type 0 where
-  pub long : length bytes ≡ 640
+  pub long : length bytes ≡ 5 * mostTransitions
   pub small : (i : ℕ) → getD bytes i 0 < 64
   pub each : (i : ℕ) → i < n → getD bytes i 0 ≡ mergedByte rows merge i
   pub rest : (i : ℕ) → n ≤ i → _≡_ {A = ℕ} (getD bytes i 0) 0

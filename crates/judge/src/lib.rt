@@ -1,13 +1,17 @@
 // The judgement: the two questions, and the verdict that is put together from them.
-pub mod merging;
+pub mod merged;
 pub mod suitable;
 
-use merging::Rows;
-use merging::merged_rows;
+use merged::Rows;
+use merged::merged_rows;
 use search::search;
+use sets::WIDTH;
 use suitable::shared_pair;
 use tables::Merging;
+use tables::TRANSITIONS;
 use tables::Tables;
+use values::SHEETS;
+use values::WORDS;
 use verdicts::Closure;
 use verdicts::Sharing;
 use verdicts::Verdict;
@@ -23,6 +27,14 @@ ghost use Rattle.verdicts.specs.Said.{said, saidSharing, Tells};
 ghost use Rattle.judge.specs.Merged.{Merged};
 ghost use Rattle.judge.specs.Judged.{mergedOf};
 
+// For how many classes rows are made. A class takes a row in each sheet, so for few classes few are made:
+// setting them to 0 is most of what the search of a small certificate costs.
+const FEW: usize = 3;
+
+const SOME: usize = 6;
+
+const MANY: usize = 12;
+
 // The rows of the merged automaton.
 fn merged_of(t: Tables, m: Merging) -> Rows
     requires { ⌜ Sound t m ⌝ }
@@ -34,8 +46,7 @@ fn merged_of(t: Tables, m: Merging) -> Rows
     merged_rows(&rows, &merge, initial.count)
 }
 
-// The first critical pair of the merged automaton, whose rows are `merged`, within the budget. A class takes 52 rows of values, so for few classes few
-// are made: setting them to 0 is most of what the search of a small certificate costs.
+// The first critical pair of the merged automaton, whose rows are `merged`, within the budget.
 pub fn first_critical(t: Tables, m: Merging, merged: Rows) -> Closure
     requires { ⌜ Sound t m ⌝ }
     requires { ⌜ Merged (t .initial .rows) (m .merge) (t .initial .count * 5) (merged .bytes) ⌝ }
@@ -45,23 +56,23 @@ pub fn first_critical(t: Tables, m: Merging, merged: Rows) -> Closure
     let rules = t.rules;
     let arities = t.arities;
     let bytes = merged.bytes;
-    let mut words = [0u64; 128];
+    let mut words = [0u64; TRANSITIONS];
     let heads = weave(&bytes, initial.count, &mut words);
     let k = m.classes;
     let listed = &arities[..t.symbols];
-    if k <= 3 {
-        let mut rows = [[0u64; 8]; 156];
+    if k <= FEW {
+        let mut rows = [[0u64; WORDS]; SHEETS * FEW];
         return search(&words, &heads, listed, rules, k, t.budget, &mut rows);
     }
-    if k <= 6 {
-        let mut rows = [[0u64; 8]; 312];
+    if k <= SOME {
+        let mut rows = [[0u64; WORDS]; SHEETS * SOME];
         return search(&words, &heads, listed, rules, k, t.budget, &mut rows);
     }
-    if k <= 12 {
-        let mut rows = [[0u64; 8]; 624];
+    if k <= MANY {
+        let mut rows = [[0u64; WORDS]; SHEETS * MANY];
         return search(&words, &heads, listed, rules, k, t.budget, &mut rows);
     }
-    let mut rows = [[0u64; 8]; 3328];
+    let mut rows = [[0u64; WORDS]; SHEETS * WIDTH];
     search(&words, &heads, listed, rules, k, t.budget, &mut rows)
 }
 

@@ -1,10 +1,12 @@
 // The first final pair that shares a tree: the smallest class, then the smallest state of B.
-use super::merging::Rows;
-use super::merging::final_classes;
+use super::merged::Rows;
+use super::merged::final_classes;
+use sets::WIDTH;
 use sets::has;
 use sharing::Marked;
 use sharing::share;
 use tables::Merging;
+use tables::ROW;
 use tables::Tables;
 use verdicts::Sharing;
 ghost use mathlib.Core.Path.{_≡_};
@@ -13,7 +15,7 @@ ghost use lib.ListN.{length, take};
 ghost use Rattle.sets.specs.Sets.{mem};
 ghost use Rattle.paper.specs.Meaning.{Asked};
 ghost use Rattle.paper.specs.Computed.{smallest, sharing};
-ghost use Rattle.sharing.specs.Share.{Exact, Tables as Shareable};
+ghost use Rattle.sharing.specs.Share.{Exact, Shareable};
 ghost use Rattle.tables.specs.Sound.{Sound};
 ghost use Rattle.verdicts.specs.Said.{saidSharing};
 ghost use Rattle.judge.specs.Merged.{Merged};
@@ -42,7 +44,7 @@ fn first_below(set: u64, n: usize) -> First
 }
 
 // The first pair of a class in `finals`, below k, and a state in `bad`, below m, that is marked.
-pub fn first_pair(pairs: &[u64; 64], finals: u64, bad: u64, k: usize, m: usize) -> Sharing
+pub fn first_pair(pairs: &[u64; WIDTH], finals: u64, bad: u64, k: usize, m: usize) -> Sharing
     requires { ⌜ (k ≤ 64) × (m ≤ 64) ⌝ }
     ensures { λ r. ⌜ saidSharing r ≡ Asked.answered (sharedOf (now (pairs .entry)) finals bad 0 k m) ⌝ }
 {
@@ -90,8 +92,8 @@ pub fn shared_pair(t: Tables, m: Merging, merged: Rows) -> Sharing
     let bytes = merged.bytes;
     let bad_rows = bad.rows;
     let merge = m.merge;
-    let end = initial.count * 5;
-    let bad_end = bad.count * 5;
+    let end = initial.count * ROW;
+    let bad_end = bad.count * ROW;
     let marked = mark(&bytes, end, &bad_rows, bad_end, &arities, t.symbols);
     let finals = final_classes(initial.finals, initial.states, &merge);
     let pairs = marked.pairs;

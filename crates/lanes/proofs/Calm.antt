@@ -1,4 +1,4 @@
--- Substitutions without a critical pair: one class more of a prefix, and the pairs of classes of the two last variables, a block of lanes after the other.
+-- Substitutions without a critical pair: one class more of a prefix, and the pairs of classes of the two last variables, a batch after the other.
 use mathlib.Core.Path.{_≡_, refl, sym, ap, subst, _∙_}
 use mathlib.Core.Bool.{false}
 use mathlib.Core.Logic.{⊎-elim}
@@ -17,7 +17,7 @@ use Rattle.theory.specs.Value.{isCritical}
 use Rattle.sets.specs.Sets.{Set, none, plus}
 use Rattle.values.specs.Standing.{Each}
 use Rattle.values.proofs.Spanned.{each-then}
-use Rattle.lanes.specs.Blocks.{differ, Calm, CalmAll}
+use Rattle.lanes.specs.Batches.{differ, Calm, CalmAll}
 use Rattle.lanes.proofs.Coded.{critical-lane}
 
 -- The same bound on a term's variables by another name.
@@ -74,7 +74,7 @@ module _ (M : Automaton) (rule : Rule) where
   pub swept : (xs : List ℕ) (y n : ℕ) → M .states * M .states ≤ n → Seen (xs ++ (y ∷ [])) n → Calm M rule (length xs + 3) (xs ++ (y ∷ []))
   swept xs y n h seen τ long = seen-all (xs ++ (y ∷ [])) n h seen τ (omega (arith, length-append xs (y ∷ [])))
 
-  -- One block of lanes more.
+  -- One batch more.
   pub seen-more : (zs : List ℕ) (start : ℕ) (ρ : ℕ → ℕ → Set) → Each (λ x. x < length zs + 2) (rule .left) → Each (λ x. x < length zs + 2) (rule .right) → Laid (M .states) zs start ρ
       → ((l : ℕ) → l < 512 → (q : ℕ) → q < M .states → differ (M .transitions) (ρ l) rule q ≡ false) → Seen zs start → Seen zs (start + 512)
   seen-more zs start ρ left right laid clear old a b ha hb h q hq =
@@ -84,6 +84,8 @@ module _ (M : Automaton) (rule : Rule) where
             let l = a * M .states + b - start in
             let σ = zs ++ (a ∷ (b ∷ [])) in
             let exact = laid-exact (M .states) zs start ρ laid a b l ha hb (omega arith) (omega arith) in
-            sym (critical-lane M rule (ρ l) σ (each-then (λ x. x < length zs + 2) (λ x. ρ l x ≡ plus none (entry σ x)) exact left) (each-then (λ x. x < length zs + 2) (λ x. ρ l x ≡ plus none (entry σ x)) exact right) q)
+            sym (critical-lane M rule (ρ l) σ
+            (each-then (λ x. x < length zs + 2) (λ x. ρ l x ≡ plus none (entry σ x)) exact left)
+            (each-then (λ x. x < length zs + 2) (λ x. ρ l x ≡ plus none (entry σ x)) exact right) q)
             ∙ clear l (omega arith) q hq
       ]

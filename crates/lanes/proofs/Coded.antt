@@ -10,7 +10,7 @@ use Rattle.theory.specs.Value.{isCritical}
 use Rattle.sets.specs.Sets.{Set, none, plus}
 use Rattle.values.specs.Standing.{Each}
 use Rattle.values.proofs.Spanned.{spanned-exact}
-use Rattle.lanes.specs.Blocks.{differ}
+use Rattle.lanes.specs.Batches.{differ}
 
 pub critical-lane : (M : Automaton) (rule : Rule) (ρ : ℕ → Set) (σ : List ℕ) → Each (λ x. ρ x ≡ plus none (entry σ x)) (rule .left)
     → Each (λ x. ρ x ≡ plus none (entry σ x)) (rule .right) → (q : ℕ) → differ (M .transitions) ρ rule q ≡ isCritical M rule σ q

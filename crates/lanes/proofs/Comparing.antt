@@ -1,4 +1,4 @@
--- Both sides valued one after the other: the second call leaves the left side's block and the variables' blocks, so each side has its value by the sets at the start.
+-- Both sides valued one after the other: the second call leaves the left side's sheet and the variables' sheets, so each side has its value by the sets at the start.
 use mathlib.Core.Path.{_≡_, sym, ap, ap₂, _∙_}
 use mathlib.Core.Bool.{true, false, not, _&&_, true≢false}
 use mathlib.Core.Logic.{inl, inr}
@@ -13,19 +13,21 @@ use Rattle.theory.proofs.Bools.{and-off}
 use Rattle.sets.specs.Sets.{Set, less}
 use Rattle.woven.specs.Woven.{wovenMoves}
 use Rattle.values.specs.Sets.{spanned}
-use Rattle.values.specs.Lanes.{lane, blockOf, given}
+use Rattle.values.specs.Lanes.{lane, sheetOf, given}
 use Rattle.values.specs.Standing.{Stands, Spelled, Kept, Valuable, Valued}
-use Rattle.values.proofs.Blocks.{block-same, given-same, block-symbol, room}
-use Rattle.values.proofs.Standing.{block-room, valued-room}
-use Rattle.lanes.specs.Blocks.{Judgeable, Compared, Untouched}
+use Rattle.values.proofs.Sheets.{sheet-same, given-same, sheet-symbol, room}
+use Rattle.values.proofs.Standing.{sheet-room, valued-room}
+use Rattle.lanes.specs.Batches.{Judgeable, Compared, Untouched}
 
 -- A side can be valued, where what is kept is right.
-pub valuable : {arities words heads tokens : List ℕ} {k near at : ℕ} {m now : List (List ℕ)} {ends : List ℕ} → Judgeable arities words heads tokens k m → Stands arities tokens at → length now ≡ length m
+pub valuable : {arities words heads tokens : List ℕ} {k near at : ℕ} {m now : List (List ℕ)} {ends : List ℕ}
+    → Judgeable arities words heads tokens k m → Stands arities tokens at → length now ≡ length m
     → Kept (wovenMoves arities words (getD heads 64 0)) arities tokens k near now ends → Valuable arities words heads tokens near k at ends now
 valuable j stands long kept = record { ready = j .ready; tokens-long = j .tokens-long; stands = stands; room = omega (arith, j .room); kept = kept }
 
--- Only blocks of tokens are changed by valuing a term.
-valued-untouched : {Δ : List Transition} {arities tokens : List ℕ} {k at next : ℕ} {m after : List (List ℕ)} → Stands arities tokens at → Valued Δ arities tokens k m at after next → Untouched k m after
+-- Only sheets of tokens are changed by valuing a term.
+valued-untouched : {Δ : List Transition} {arities tokens : List ℕ} {k at next : ℕ} {m after : List (List ℕ)}
+    → Stands arities tokens at → Valued Δ arities tokens k m at after next → Untouched k m after
 valued-untouched {Δ = Δ} {arities = arities} {tokens = tokens} {k = k} {next = next} s v =
     record { long = v .long; same = λ i h. v .outside i (inr (omega (arith, mul-le-mul-right {m = next} {n = 48} k (valued-room arities tokens Δ k s v)))) }
 
@@ -33,19 +35,19 @@ module _ {arities words heads tokens : List ℕ} {k : ℕ} {m : List (List ℕ)}
   abbrev Δ : List Transition
   Δ = wovenMoves arities words (getD heads 64 0)
 
-  -- The right side's block is within the list, and its first row is a small number.
-  pub right-room : blockOf tokens 24 * k + k ≤ length m
-  right-room = room k (blockOf tokens 24) (block-room arities tokens 24 (j .right)) (j .room)
+  -- The right side's sheet is within the list, and its first row is a small number.
+  pub right-room : sheetOf tokens 24 * k + k ≤ length m
+  right-room = room k (sheetOf tokens 24) (sheet-room arities tokens 24 (j .right)) (j .room)
 
-  pub right-low : blockOf tokens 24 * k ≤ 3328
-  right-low = let low : blockOf tokens 24 ≤ 52 = omega (arith, block-room arities tokens 24 (j .right)) in mul-le-mul low (j .ready .most)
+  pub right-low : sheetOf tokens 24 * k ≤ 3328
+  right-low = let low : sheetOf tokens 24 ≤ 52 = omega (arith, sheet-room arities tokens 24 (j .right)) in mul-le-mul low (j .ready .most)
 
   zeroth : 0 * k ≡ 0
   zeroth = omega arith
 
   module _ {mid : List (List ℕ)} {next : ℕ} (first : Valued Δ arities tokens k m 0 mid next) where
     left-value : (rule : Rule) → Spelled arities tokens rule → (l : ℕ) → l < 512 → lane k mid (0 * k) l ≡ spanned Δ (given k m l) (rule .left)
-    left-value rule s l h = ap (λ b. lane k mid (b * k) l) (sym (block-symbol tokens 0 (j .symbol))) ∙ first .value (rule .left) (s .after-left) (s .left) l h
+    left-value rule s l h = ap (λ b. lane k mid (b * k) l) (sym (sheet-symbol tokens 0 (j .symbol))) ∙ first .value (rule .left) (s .after-left) (s .left) l h
 
     pub left-untouched : Untouched k m mid
     left-untouched = valued-untouched (j .left) first
@@ -65,15 +67,15 @@ module _ {arities words heads tokens : List ℕ} {k : ℕ} {m : List (List ℕ)}
           record { long = later .long ∙ left-untouched .long; same = λ i h. later .same i h ∙ left-untouched .same i h }
 
       left-after : (rule : Rule) → Spelled arities tokens rule → (l : ℕ) → l < 512 → lane k after 0 l ≡ spanned Δ (given k m l) (rule .left)
-      left-after rule s l h = ap (λ a. lane k after a l) (sym zeroth) ∙ block-same k 24 end mid after (second .outside) 0 l (inl (omega arith)) ∙ left-value rule s l h
+      left-after rule s l h = ap (λ a. lane k after a l) (sym zeroth) ∙ sheet-same k 24 end mid after (second .outside) 0 l (inl (omega arith)) ∙ left-value rule s l h
 
-      right-after : (rule : Rule) → Spelled arities tokens rule → (l : ℕ) → l < 512 → lane k after (blockOf tokens 24 * k) l ≡ spanned Δ (given k m l) (rule .right)
+      right-after : (rule : Rule) → Spelled arities tokens rule → (l : ℕ) → l < 512 → lane k after (sheetOf tokens 24 * k) l ≡ spanned Δ (given k m l) (rule .right)
       right-after rule s l h =
           second .value (rule .right) (s .after-right) (s .right) l h
           ∙ ap (λ ρ. spanned Δ ρ (rule .right)) (given-same k 0 next m mid (first .outside) (valued-room arities tokens Δ k (j .left) first) l)
 
       -- In every lane each class of the left side is one of the right side.
-      pub compared-within : {b : ℕ} → b ≡ blockOf tokens 24 → ((l q : ℕ) → l < 512 → less (lane k after 0 l) (lane k after (b * k) l) q ≡ false)
+      pub compared-within : {b : ℕ} → b ≡ sheetOf tokens 24 → ((l q : ℕ) → l < 512 → less (lane k after 0 l) (lane k after (b * k) l) q ≡ false)
           → (rule : Rule) → Spelled arities tokens rule → Compared Δ tokens k m after rule false
       compared-within is none-less rule s = record {
         clear = λ e l h q hq.

@@ -18,12 +18,12 @@ use Rattle.theory.proofs.Bools.{and-off}
 use Rattle.sets.specs.Sets.{Set, mem, none, plus, under}
 use Rattle.woven.specs.Woven.{wovenMoves}
 use Rattle.values.specs.Sets.{spanned}
-use Rattle.values.specs.Lanes.{lane, blockOf, given}
+use Rattle.values.specs.Lanes.{lane, sheetOf, given}
 use Rattle.values.specs.Standing.{Spelled, Valued}
 use Rattle.values.proofs.Spanned.{spanned-more, each-then}
-use Rattle.values.proofs.Blocks.{block-symbol}
-use Rattle.lanes.specs.Blocks.{Touched, Fixed, Paired, BothTouched, Alive}
-use Rattle.lanes.specs.Automaton.{automatonOf}
+use Rattle.values.proofs.Sheets.{sheet-symbol}
+use Rattle.lanes.specs.Batches.{Touched, Fixed, Paired, BothTouched, Alive}
+use Rattle.lanes.specs.Automaton.{wovenAutomaton}
 use Rattle.lanes.proofs.Stays.{given-stays, fixed-stays, touched-rows}
 
 -- The first variables have the classes xs, the next one has the lane's number, and the later ones may have any class.
@@ -33,7 +33,8 @@ pub record Freed (k : ℕ) (m : List (List ℕ)) (xs : List ℕ) : Type 0 where
   pub free : (x l : ℕ) → length xs + 1 ≤ x → x < 4 → l < 512 → given k m l x ≡ under k
 
 -- The prefix is fixed, the next variable is paired from 0 on, and the later ones are freed.
-pub freed : (k : ℕ) (m fresh after : List (List ℕ)) (xs : List ℕ) → length xs ≤ 1 → 1 ≤ k → Fixed k m xs → Paired k fresh (length xs + 1) (length xs) 0 k → BothTouched k (length xs + 1) (length xs) m fresh
+pub freed : (k : ℕ) (m fresh after : List (List ℕ)) (xs : List ℕ) → length xs ≤ 1 → 1 ≤ k → Fixed k m xs
+    → Paired k fresh (length xs + 1) (length xs) 0 k → BothTouched k (length xs + 1) (length xs) m fresh
     → ((x l : ℕ) → length xs + 1 ≤ x → x < 4 → l < 512 → given k after l x ≡ under k) → Touched k (length xs + 1) 4 fresh after → Freed k after xs
 freed k m fresh after xs few some fixed paired both free touched =
     record {
@@ -79,18 +80,18 @@ module _ (k : ℕ) (m : List (List ℕ)) (xs : List ℕ) (some : 1 ≤ k) (most 
   module _ (arities words heads tokens : List ℕ) (symbol : getD tokens 0 0 < 64) (after : List (List ℕ)) (next mask : ℕ)
       (valued : Valued (wovenMoves arities words (getD heads 64 0)) arities tokens k m 0 after next)
       (missed : (j q : ℕ) → j < 64 → mem mask j ≡ false → lane k after 0 j q ≡ false) where
-    left-block : blockOf tokens 0 * k ≡ 0
-    left-block = ap (λ b. b * k) (block-symbol tokens 0 symbol) ∙ zero-mul k
+    left-sheet : sheetOf tokens 0 * k ≡ 0
+    left-sheet = ap (λ b. b * k) (sheet-symbol tokens 0 symbol) ∙ zero-mul k
 
-    pub some-alive : (rule : Rule) → Spelled arities tokens rule → Alive (automatonOf arities words heads k) rule xs mask
-    unfolding automatonOf isCritical
+    pub some-alive : (rule : Rule) → Spelled arities tokens rule → Alive (wovenAutomaton arities words heads k) rule xs mask
+    unfolding wovenAutomaton isCritical
     some-alive rule s = record {
       dead = λ y hy e v hv τ long low q hq.
-          let M = automatonOf arities words heads k in
+          let M = wovenAutomaton arities words heads k in
           let σ = xs ++ (y ∷ τ) in
           let ρ = given k m y in
           ap (λ (σ : List ℕ). isCritical M rule σ q) (append-assoc xs (y ∷ []) τ)
           ∙ and-off _ _ (off (value M (entry σ) (rule .left) q) (spanned (M .transitions) ρ (rule .left) q)
           (λ w. spanned-more M (entry σ) ρ (each-then (λ x. x < 4) (λ x. ρ x (entry σ x) ≡ true) (allowed y hy τ low) (s .left-four)) (value-exact M (entry σ) (rule .left) q .0 w))
-          (ap (λ (t : Set). t q) (sym (valued .value (rule .left) (s .after-left) (s .left) y (omega arith))) ∙ ap (λ a. lane k after a y q) left-block ∙ missed y q (omega arith) e));
+          (ap (λ (t : Set). t q) (sym (valued .value (rule .left) (s .after-left) (s .left) y (omega arith))) ∙ ap (λ a. lane k after a y q) left-sheet ∙ missed y q (omega arith) e));
     }

@@ -8,7 +8,7 @@ use Rattle.theory.proofs.Bools.{zero-at}
 use Rattle.woven.specs.Woven.{wovenMoves}
 use Rattle.values.specs.Standing.{Kept}
 use Rattle.values.proofs.Keeping.{kept-none}
-use Rattle.lanes.specs.Blocks.{PairedRoom, Judgeable}
+use Rattle.lanes.specs.Batches.{PairedRoom, Judgeable}
 use Rattle.lanes.proofs.Numbers.{square-low}
 
 module _ {arities words heads tokens : List ℕ} {k : ℕ} {m : List (List ℕ)} where

@@ -1,4 +1,5 @@
-pub mod Blocks
+-- The laws of batches: what the variables' sheets and the sides' say in each lane, and which substitutions have no critical pair.
+pub mod Batches
 pub mod Calm
 pub mod Coded
 pub mod Comparing

@@ -75,7 +75,7 @@ module _ (k v i : ℕ) where
     | no nl ↦ omega (arith, choices-out (omega arith))
   ]
 
--- A lane of a block is a class of the last variable, and 0 where there is no variable.
+-- A lane of a batch is a class of the last variable, and 0 where there is no variable.
 pub lane-low : (k v j : ℕ) → k ≤ 64 → v ≤ 4 → j < k ^ rest v 3 → (j < 64) × (v ≡ 0 → j ≡ 0)
 unfolding rest
 lane-low k zero j h l b = (omega (arith, pow-zero k), λ e. omega (arith, pow-zero k))

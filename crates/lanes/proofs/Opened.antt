@@ -11,16 +11,16 @@ use Rattle.theory.specs.Rewriting.{Rule}
 use Rattle.theory.specs.Automaton.{Automaton}
 use Rattle.theory.proofs.Bools.{and-on, not-both}
 use Rattle.paper.proofs.Smallest.{decided}
-use Rattle.sets.specs.Sets.{mem}
+use Rattle.sets.specs.Sets.{mem, allMask}
 use Rattle.sets.proofs.Laws.{mem-and, mem-all}
-use Rattle.lanes.specs.Blocks.{Calm, CalmAll, Alive, Swept, Open}
+use Rattle.lanes.specs.Batches.{Calm, CalmAll, Alive, Swept, Open}
 use Rattle.lanes.proofs.Calm.{calm-more}
 
 module _ (M : Automaton) (rule : Rule) (v : ℕ) (xs : List ℕ) (needed : ℕ) where
-  pub open-all : M .states ≤ 64 → Open M rule v xs needed 18446744073709551615
+  pub open-all : M .states ≤ 64 → Open M rule v xs needed allMask
   open-all most = record {
-    early = λ y hy e. not-both (mem 18446744073709551615 y) (mem-all y (omega arith)) e;
-    passed = λ y hy e. not-both (mem 18446744073709551615 y) (mem-all y (omega arith)) e;
+    early = λ y hy e. not-both (mem allMask y) (mem-all y (omega arith)) e;
+    passed = λ y hy e. not-both (mem allMask y) (mem-all y (omega arith)) e;
   }
 
   pub open-none : v ≡ length xs + 2 → CalmAll M rule xs → Open M rule v xs needed 0

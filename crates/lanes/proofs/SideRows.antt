@@ -1,4 +1,4 @@
--- Rows and blocks of the two sides: words joined one after the other, a row made by a difference, and what a row says of a lane of its block.
+-- Rows and sheets of the two sides: words joined one after the other, a row made by a difference, and what a row says of a lane of its sheet.
 use mathlib.Core.Path.{_≡_, sym, ap, ap₂, _∙_}
 use mathlib.Core.Bool.{false, not, _&&_}
 use mathlib.Core.List.{List, []}
@@ -32,7 +32,7 @@ lit-low row j h =
     let place : j % 64 ≡ j = omega arith in
     ap₂ (λ w b. mem (getD row w 0) b) first place
 
--- The left side's block is the first: its rows are the first k.
+-- The left side's sheet is the first: its rows are the first k.
 module _ (k : ℕ) (m : List (List ℕ)) (l q : ℕ) where
   lane-in : (a : ℕ) → q < k → lane k m a l q ≡ lit (getD m (a + q) []) l
   lane-in a h = and-on _ _ (lt-ltb q k h)

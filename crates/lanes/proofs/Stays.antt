@@ -8,8 +8,8 @@ use native.Mathlib.Decide.{decLt}
 use native.Mathlib.Omega.{arith}
 use lib.ListN.{length, getD}
 use Rattle.values.specs.Lanes.{given}
-use Rattle.values.proofs.Blocks.{same-lane}
-use Rattle.lanes.specs.Blocks.{Touched, Fixed, Untouched, Judgeable}
+use Rattle.values.proofs.Sheets.{same-lane}
+use Rattle.lanes.specs.Batches.{Touched, Fixed, Untouched, Judgeable}
 
 module _ (k : ℕ) (m after : List (List ℕ)) where
   -- The rows of the variable x are as they were.

@@ -1,4 +1,4 @@
--- The classes of one variable tried one after the other, and the blocks of lanes that are swept with all of them.
+-- The classes of one variable tried one after the other, and the batches that are swept with all of them.
 use mathlib.Core.Path.{_≡_, refl, sym, ap, ap₂, _∙_}
 use mathlib.Core.Bool.{Bool, true, false, cond, not, _&&_}
 use mathlib.Core.Logic.{_⊎_, inl, inr}
@@ -20,7 +20,7 @@ use Rattle.values.specs.Lanes.{given}
 use Rattle.values.specs.Standing.{Each, Spelled, Kept}
 use Rattle.values.proofs.Spanned.{spanned-same, each-then}
 use Rattle.values.proofs.Keeping.{kept-near}
-use Rattle.lanes.specs.Blocks.{Touched, Fixed, Paired, Untouched, differ, withOwn, Others}
+use Rattle.lanes.specs.Batches.{Touched, Fixed, Paired, Untouched, differ, withOwn, Others}
 use Rattle.lanes.proofs.Calm.{Laid}
 use Rattle.lanes.proofs.Stays.{given-stays, other-rows, untouched-rows}
 

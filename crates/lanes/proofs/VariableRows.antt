@@ -1,4 +1,4 @@
--- The variables' blocks: where they lie, what their rows say of the sets in the lanes, and how a class for each lane gets into one of them.
+-- The variables' sheets: where they lie, what their rows say of the sets in the lanes, and how a class for each lane gets into one of them.
 use mathlib.Core.Path.{_≡_, refl, sym, ap, _∙_, fun-ext}
 use mathlib.Core.Bool.{false, _&&_, _||_, or-false}
 use mathlib.Core.Logic.{_⊎_, inl, inr}
@@ -13,14 +13,14 @@ use lib.Dec.{eqb, ltb}
 use lib.ListN.{length, getD, set, length-set, length-replicate}
 use lib.Seq.{getD-set-same, getD-set-other}
 use borrow.Author.Tests.{lt-ltb, le-ltb, eq-eqb, ne-eqb}
-use Rattle.sets.specs.Sets.{Set, mem, none, plus, under}
+use Rattle.sets.specs.Sets.{Set, mem, none, plus, under, allMask}
 use Rattle.sets.proofs.Laws.{mem-with}
 use Rattle.theory.proofs.Bools.{and-on, and-off}
 use Rattle.values.specs.Lanes.{lit, given}
 use Rattle.values.specs.Rows.{Within}
-use Rattle.values.proofs.Blocks.{room, same-wider, same-within, same-then}
+use Rattle.values.proofs.Sheets.{room, same-wider, same-within, same-then}
 use Rattle.values.proofs.Rows.{none-lit, ones, all-lit, row-within}
-use Rattle.lanes.specs.Blocks.{Roomy, Touched, Full, Lighted, Paired, BothTouched}
+use Rattle.lanes.specs.Batches.{Roomy, Touched, Full, Lighted, Paired, BothTouched}
 use Rattle.lanes.proofs.Stays.{SameRows, given-stays, touched-rows, other-rows}
 
 -- One lane of a row is lit.
@@ -59,11 +59,11 @@ lighted m i l inside wide low =
     }
 
 module _ (k : ℕ) where
-  pub block-room : (x : ℕ) (m : List (List ℕ)) → Roomy k m → x < 4 → (48 + x) * k + k ≤ length m
-  block-room x m roomy h = room k (48 + x) (omega arith) roomy
+  pub sheet-room : (x : ℕ) (m : List (List ℕ)) → Roomy k m → x < 4 → (48 + x) * k + k ≤ length m
+  sheet-room x m roomy h = room k (48 + x) (omega arith) roomy
 
-  pub block-low : (x : ℕ) → x < 4 → k ≤ 64 → (48 + x) * k + k ≤ 3328
-  block-low x h low = omega (arith, room k (48 + x) {n = 52 * k} (omega arith) (omega arith))
+  pub sheet-low : (x : ℕ) → x < 4 → k ≤ 64 → (48 + x) * k + k ≤ 3328
+  sheet-low x h low = omega (arith, room k (48 + x) {n = 52 * k} (omega arith) (omega arith))
 
   module _ (m after : List (List ℕ)) where
     pub touched : (x : ℕ) → Within k m ((48 + x) * k) after → Touched k x (x + 1) m after
@@ -72,8 +72,8 @@ module _ (k : ℕ) where
       same = same-wider k (48 + x) (48 + x + 1) m after (same-within k (48 + x) m after only) (48 + x) (48 + (x + 1)) (omega arith) (omega arith);
     }
 
-    other-block : (x y : ℕ) → Within k m ((48 + y) * k) after → (x ≡ y → ⊥) → SameRows k m after x
-    other-block x y only = other-rows k m after y (touched y only) x
+    other-sheet : (x y : ℕ) → Within k m ((48 + y) * k) after → (x ≡ y → ⊥) → SameRows k m after x
+    other-sheet x y only = other-rows k m after y (touched y only) x
 
     light-within : (a c l : ℕ) → c < k → Lighted m (a + c) l after → Within k m a after
     light-within a c l low done = row-within k m a c m after low (done .long) (done .same) (record { long = refl; same = λ i out. refl })
@@ -90,7 +90,7 @@ module _ (k : ℕ) where
     given-one : (c : ℕ) → c < k → ((q : ℕ) → q < k → lit (getD m ((48 + x) * k + q) []) l ≡ eqb c q) → given k m l x ≡ plus none c
     given-one c low each = given-is (plus none c) each (λ q h. ne-eqb c q (λ e. omega arith))
 
-  -- A block of empty rows, one of which is filled.
+  -- A sheet of empty rows, one of which is filled.
   pub fixed : (m : List (List ℕ)) (x c l : ℕ) → c < k → (48 + x) * k + k ≤ length m → Full k m ((48 + x) * k) 0 → l < 512
       → given k (set m ((48 + x) * k + c) ones) l x ≡ plus none c
   fixed m x c l low room full h = given-one _ l x c low (λ q hq. elim (ℕ-discrete c q) [
@@ -102,10 +102,10 @@ module _ (k : ℕ) where
         ∙ none-lit l ∙ sym (ne-eqb c q other)
   ])
 
-  pub freed : (m : List (List ℕ)) (x l : ℕ) → Full k m ((48 + x) * k) 18446744073709551615 → l < 512 → given k m l x ≡ under k
+  pub freed : (m : List (List ℕ)) (x l : ℕ) → Full k m ((48 + x) * k) allMask → l < 512 → given k m l x ≡ under k
   freed m x l full h = given-is m l x (under k) (λ q hq. ap (λ r. lit r l) (full q hq) ∙ all-lit l h ∙ sym (lt-ltb q k hq)) (λ q hq. le-ltb q k hq)
 
--- The variables from `first` to before x have their sets in every lane, and only their blocks are changed.
+-- The variables from `first` to before x have their sets in every lane, and only their sheets are changed.
 pub record Upto (k first : ℕ) (s : ℕ → Set) (m₀ m : List (List ℕ)) (x : ℕ) : Type 0 where
   pub each : (y l : ℕ) → first ≤ y → y < x → l < 512 → given k m l y ≡ s y
   pub only : Touched k first x m₀ m
@@ -220,7 +220,7 @@ module _ (k hi lo : ℕ) where
   both-one m after x which only = record {
     long = only .long;
     tokens = λ i h. only .same i (inl (omega (arith, mul-le-mul-right {m = 48} {n = 48 + x} k (omega arith))));
-    others = λ y q h low one two. other-block k m after y x only (not-own y one two which) q low;
+    others = λ y q h low one two. other-sheet k m after y x only (not-own y one two which) q low;
   }
     where
       not-own : (y : ℕ) → (y ≡ hi → ⊥) → (y ≡ lo → ⊥) → (x ≡ hi) ⊎ (x ≡ lo) → y ≡ x → ⊥
@@ -251,7 +251,7 @@ module _ (k hi lo start : ℕ) where
   module _ (two : hi ≡ lo → ⊥) where
     pub written-none : (m after : List (List ℕ)) → Full k m ((48 + hi) * k) 0 → Full k after ((48 + lo) * k) 0 → Within k m ((48 + lo) * k) after → Written after after 0 0
     written-none m after one other only = record {
-      high = laned-kept k hi (high-digit k start) m after 0 (other-block k m after hi lo only two) (laned-none k hi (high-digit k start) m one);
+      high = laned-kept k hi (high-digit k start) m after 0 (other-sheet k m after hi lo only two) (laned-none k hi (high-digit k start) m one);
       low = laned-none k lo (low-digit k start) after other;
       both = record { long = refl; tokens = λ i h. refl; others = λ x q h low one two. refl };
     }
@@ -268,13 +268,13 @@ module _ (k hi lo start : ℕ) where
       pub high-lit : (after : List (List ℕ)) → y < k → Lighted m ((48 + hi) * k + y) l after → Written m₀ m l l → Written m₀ after (l + 1) l
       high-lit after inside done old = let only = light-within k m after ((48 + hi) * k) y l inside done in record {
         high = laned-more k hi (high-digit k start) m after l y (high-is k start y z l (next .low) (next .sum)) inside done (old .high);
-        low = laned-kept k lo (low-digit k start) m after l (other-block k m after lo hi only (λ e. two (sym e))) (old .low);
+        low = laned-kept k lo (low-digit k start) m after l (other-sheet k m after lo hi only (λ e. two (sym e))) (old .low);
         both = both-then k hi lo m₀ m after (old .both) (both-one k hi lo m after hi (inl refl) only);
       }
 
       pub low-lit : (after : List (List ℕ)) → Lighted m ((48 + lo) * k + z) l after → Written m₀ m (l + 1) l → Written m₀ after (l + 1) (l + 1)
       low-lit after done old = let only = light-within k m after ((48 + lo) * k) z l (next .low) done in record {
-        high = laned-kept k hi (high-digit k start) m after (l + 1) (other-block k m after hi lo only two) (old .high);
+        high = laned-kept k hi (high-digit k start) m after (l + 1) (other-sheet k m after hi lo only two) (old .high);
         low = laned-more k lo (low-digit k start) m after l z (low-is k start y z l (next .low) (next .sum)) (next .low) done (old .low);
         both = both-then k hi lo m₀ m after (old .both) (both-one k hi lo m after lo (inr refl) only);
       }

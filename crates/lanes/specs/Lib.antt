@@ -1,3 +1,4 @@
+-- The definitions that the contracts of `lanes` cite.
 pub mod Automaton
 pub mod Prefixes
-pub mod Blocks
+pub mod Batches

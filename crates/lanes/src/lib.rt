@@ -1,5 +1,5 @@
-// Blocks of substitutions: those of a rule's last two variables, 512 at once, one to a lane.
-pub mod block;
+// Batches of substitutions: up to 512, one to a lane, that differ in a rule's last two variables.
+pub mod batch;
 pub mod opening;
 pub mod prefixes;
 pub mod sides;

@@ -1,8 +1,14 @@
 // Both sides of a rule in every lane.
 use sets::has;
 use sets::minus;
-use values::block_of;
+use tables::RULE;
+use tables::SIDE;
+use tables::TRANSITIONS;
+use values::WORDS;
+use values::sheet_of;
 use values::value;
+use verdicts::NO_CLASS;
+use woven::HEADS;
 ghost use mathlib.Core.Path.{_≡_};
 ghost use mathlib.Core.Bool.{true, false, not, _&&_};
 ghost use Prim.Native.Nat.{ℕ, _+_, _*_, _≤_, _<_};
@@ -12,27 +18,26 @@ ghost use Rattle.sets.specs.Sets.{mem, less};
 ghost use Rattle.woven.specs.Woven.{wovenMoves};
 ghost use Rattle.values.specs.Lanes.{lit, lane};
 ghost use Rattle.values.specs.Standing.{Spelled, Kept};
-ghost use Rattle.lanes.specs.Blocks.{Judgeable, Compared, Inspectable, Untouched};
+ghost use Rattle.lanes.specs.Batches.{Judgeable, Compared, Inspectable, Untouched};
 
-const LEFT: usize = 0;
-
-const RIGHT: usize = 24;
+// The token of no variable, where none is about to get another class.
+pub const NONE: u8 = NO_CLASS;
 
 // Whether no lane of a row is lit.
-fn dark(row: [u64; 8]) -> bool
+fn dark(row: [u64; WORDS]) -> bool
     ensures { λ r. ⌜ (r ≡ true → (l : ℕ) → l < 512 → lit row l ≡ false) ⌝ }
 {
     let mut all = 0;
     let mut y = 0;
-    while y < 8 {
+    while y < WORDS {
         all = all | row[y];
         y += 1;
     }
     all == 0
 }
 
-// Whether the block of the left side has no class in any lane.
-fn left_empty(m: &[[u64; 8]], k: usize) -> bool
+// Whether the sheet of the left side has no class in any lane.
+fn left_empty(m: &[[u64; WORDS]], k: usize) -> bool
     requires { ⌜ k ≤ length (now m) ⌝ }
     ensures { λ r. ⌜ (r ≡ true → (l q : ℕ) → l < 512 → lane k (now (m .entry)) 0 l q ≡ false) ⌝ }
 {
@@ -48,20 +53,20 @@ fn left_empty(m: &[[u64; 8]], k: usize) -> bool
 }
 
 // The lanes of a that are not lit in b.
-fn without(a: [u64; 8], b: [u64; 8]) -> [u64; 8]
+fn without(a: [u64; WORDS], b: [u64; WORDS]) -> [u64; WORDS]
     ensures { λ r. ⌜ ((l : ℕ) → l < 512 → lit r l ≡ (lit a l && not (lit b l))) ⌝ }
 {
-    let mut r = [0u64; 8];
+    let mut r = [0u64; WORDS];
     let mut y = 0;
-    while y < 8 {
+    while y < WORDS {
         r[y] = minus(a[y], b[y]);
         y += 1;
     }
     r
 }
 
-// Whether in every lane each class of the left side's block is in the block at row b.
-fn left_within(m: &[[u64; 8]], k: usize, b: usize) -> bool
+// Whether in every lane each class of the left side's sheet is in the sheet at row b.
+fn left_within(m: &[[u64; WORDS]], k: usize, b: usize) -> bool
     requires { ⌜ (k ≤ length (now m)) × (b + k ≤ length (now m)) ⌝ }
     ensures { λ r. ⌜ (r ≡ true → (l q : ℕ) → l < 512 → less (lane k (now (m .entry)) 0 l) (lane k (now (m .entry)) b l) q ≡ false) ⌝ }
 {
@@ -78,14 +83,14 @@ fn left_within(m: &[[u64; 8]], k: usize, b: usize) -> bool
 
 // Whether the left side has a class that the right side has not, in some lane. The right side is valued only where the left has a class.
 pub fn compare<'a>(
-    words: &'a [u64; 128],
-    heads: &'a [u8; 65],
+    words: &'a [u64; TRANSITIONS],
+    heads: &'a [u8; HEADS],
     arities: &'a [u8],
     tokens: &'a [u8],
     near: u8,
     k: usize,
-    ends: &mut [u8; 48],
-    m: &mut [[u64; 8]],
+    ends: &mut [u8; RULE],
+    m: &mut [[u64; WORDS]],
 ) -> bool
     requires { ⌜ Judgeable (now arities) (now words) (now heads) (now tokens) k (now m) ⌝ }
     requires { ⌜ Kept (wovenMoves (now arities) (now words) (getD (now heads) 64 0)) (now arities) (now tokens) k near (now m) (now ends) ⌝ }
@@ -96,12 +101,12 @@ pub fn compare<'a>(
         (now (tokens .entry)) k near
         (now (m .exit)) (now (ends .exit)) × Untouched k (now (m .entry)) (now (m .exit)) ⌝ }
 {
-    value(words, heads, arities, tokens, near, k, LEFT, ends, m);
+    value(words, heads, arities, tokens, near, k, 0, ends, m);
     if left_empty(m, k) {
         return false;
     }
-    value(words, heads, arities, tokens, near, k, RIGHT, ends, m);
-    let right = block_of(tokens, RIGHT) * k;
+    value(words, heads, arities, tokens, near, k, SIDE, ends, m);
+    let right = sheet_of(tokens, SIDE) * k;
     if left_within(m, k, right) {
         false
     } else {
@@ -109,8 +114,8 @@ pub fn compare<'a>(
     }
 }
 
-// The classes j, one to each of the first 64 lanes, in whose lane the left side's block has a class.
-pub fn left_lanes(m: &[[u64; 8]], k: usize) -> u64
+// The classes j, one to each of the first 64 lanes, in whose lane the left side's sheet has a class.
+pub fn left_lanes(m: &[[u64; WORDS]], k: usize) -> u64
     requires { ⌜ k ≤ length (now m) ⌝ }
     ensures { λ r. ⌜ ((j q : ℕ) → j < 64 → mem r j ≡ false → lane k (now (m .entry)) 0 j q ≡ false) ⌝ }
 {
@@ -123,8 +128,8 @@ pub fn left_lanes(m: &[[u64; 8]], k: usize) -> u64
     all
 }
 
-// Whether the class q is in the left side's block and not in the block at row b, in lane j of the first 64.
-pub fn critical(m: &[[u64; 8]], k: usize, b: usize, q: usize, j: u64) -> bool
+// Whether the class q is in the left side's sheet and not in the sheet at row b, in lane j of the first 64.
+pub fn critical(m: &[[u64; WORDS]], k: usize, b: usize, q: usize, j: u64) -> bool
     requires { ⌜ Inspectable k (now m) b q j ⌝ }
     ensures { λ r. ⌜ r ≡ less (lane k (now (m .entry)) 0 j) (lane k (now (m .entry)) b j) q ⌝ }
 {

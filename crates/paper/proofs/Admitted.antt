@@ -1,22 +1,23 @@
 -- What a file holds is well formed: what each line's tests and the reading of the lines leave of a certificate.
 use mathlib.Core.Path.{_≡_, refl, ap}
 use mathlib.Core.Logic.{inl, inr}
-use mathlib.Core.Bool.{Bool, true, false, _&&_, not, and-eq-true-iff, false≢true}
+use mathlib.Core.Bool.{Bool, true, _&&_, not, and-eq-true-iff, false≢true}
 use mathlib.Core.List.{List, [], _∷_, List·Memᴰ, List·Memᴰ·head, List·Memᴰ·tail, List·Memᴰ·not-nil, dropLast}
 use Prim.Native.Nat.{ℕ, zero, suc, _+_, _≤_, _<_}
 use Prim.Native.String.{String}
 use native.Mathlib.Omega.{arith}
 use native.Mathlib.Decide.{decLe}
-use lib.Dec.{eqb, leb, ltb, leb→le}
+use lib.Dec.{eqb, leb, ltb}
 use lib.ListN.{length, getD}
-use borrow.Author.Tests.{ltb-true}
+use borrow.Author.Tests.{ltb-true, leb-true}
 use Rattle.theory.specs.Lists.{countFrom, any}
 use Rattle.theory.specs.Term.{Term, var, variables}
 use Rattle.theory.specs.Rewriting.{variableCount}
 use Rattle.theory.specs.Automaton.{_of_gives_}
+use Rattle.theory.proofs.Nth.{all-cons}
 use Rattle.theory.proofs.Count.{order-mem}
 use Rattle.theory.proofs.Tests.{equal-iff, not-iff}
-use Rattle.paper.specs.Limits.{mostSymbols, mostArity, lastState, mostBytes}
+use Rattle.paper.specs.Limits.{mostSymbols, mostArity, lastState, mostVariables, mostBytes}
 use Rattle.paper.specs.Checked.{Checked, fault, says}
 use Rattle.paper.specs.Lines.{takeLine, Said, checkedLine}
 use Rattle.paper.specs.Fields.{all, each, number, entries}
@@ -29,7 +30,7 @@ use Rattle.paper.proofs.Smallest.{decided}
 use Rattle.paper.proofs.Words.{ascending-exact, numbered-exact}
 use Rattle.paper.proofs.Tokens.{all-mem, tokens-exact}
 use Rattle.paper.proofs.Exact.{listed-iff}
-use Rattle.paper.proofs.Checked.{Says, said, passed, spoken, anything}
+use Rattle.paper.proofs.Checked.{Says, said, passed, says-so, anything}
 use Rattle.paper.proofs.Lines.{entries-sound}
 use Rattle.paper.proofs.Preorder.{preorder-exact}
 
@@ -46,34 +47,31 @@ same-lists [] (y ∷ ys) e = absurd (false≢true e)
 same-lists (x ∷ xs) [] e = absurd (false≢true e)
 same-lists (x ∷ xs) (y ∷ ys) e = let (h, hs) = and-eq-true-iff (eqb x y) (same xs ys) .0 e in let head = equal-iff x y .0 h in let tail = same-lists xs ys hs in cc
 
-at-most : (m n : ℕ) → leb m n ≡ true → m ≤ n
-at-most m n e = leb→le m n (rw e tt)
-
 -- A number in the range of its line.
 abbrev pub InRow : Kind → ℕ → Type 0
 InRow kind n = (row kind .least ≤ n) × (n ≤ row kind .greatest)
 
-in-row : (kind : Kind) (n : ℕ) → within kind n ≡ true → InRow kind n
+row-within : (kind : Kind) (n : ℕ) → within kind n ≡ true → InRow kind n
 unfolding within
-in-row kind n e = let (l, g) = and-eq-true-iff (leb (row kind .least) n) (leb n (row kind .greatest)) .0 e in (at-most _ _ l, at-most _ _ g)
+row-within kind n e = let (l, g) = and-eq-true-iff (leb (row kind .least) n) (leb n (row kind .greatest)) .0 e in (leb-true _ _ l, leb-true _ _ g)
 
 pub one-in : (kind : Kind) (value : List ℕ) → Says (InRow kind) (singleNumber kind value)
 unfolding singleNumber
-one-in kind value = said _ _ (anything _) (λ ns u. passed 4 _ _ (λ l. passed 5 _ _ (λ h. spoken _ _ (first ns l h))))
+one-in kind value = said _ _ (anything _) (λ ns u. passed 4 _ _ (λ l. passed 5 _ _ (λ h. says-so _ _ (first ns l h))))
   where
     first : (ns : List ℕ) → eqb (length ns) 1 ≡ true → all ns (within kind) ≡ true → InRow kind (getD ns 0 0)
     first [] l h = absurd (omega (arith, equal-iff 0 1 .0 l))
-    first (n ∷ ns) l h = in-row kind n (all-mem (within kind) (n ∷ ns) h n (List·Memᴰ·head refl))
+    first (n ∷ ns) l h = row-within kind n (all-mem (within kind) (n ∷ ns) h n (List·Memᴰ·head refl))
 
 list-in : (kind : Kind) (value : List ℕ) → Says (λ ns. (n : ℕ) → List·Memᴰ n ns → InRow kind n) (numberList kind value)
 unfolding numberList
-list-in kind value = said _ _ (anything _) (λ ns u. passed 5 _ _ (λ h. spoken _ ns (λ n m. in-row kind n (all-mem (within kind) ns h n m))))
+list-in kind value = said _ _ (anything _) (λ ns u. passed 5 _ _ (λ h. says-so _ ns (λ n m. row-within kind n (all-mem (within kind) ns h n m))))
 
 -- As many are read as there are.
 pub each-length : {Y Z : Type 0} (f : Y → Checked Z) (ys : List Y) → Says (λ zs. length zs ≡ length ys) (each f ys)
 unfolding each
-each-length f [] = spoken _ [] refl
-each-length f (y ∷ ys) = said _ _ (anything (f y)) (λ z u. said _ _ (each-length f ys) (λ zs l. spoken _ (z ∷ zs) (ap suc l)))
+each-length f [] = says-so _ [] refl
+each-length f (y ∷ ys) = said _ _ (anything (f y)) (λ z u. said _ _ (each-length f ys) (λ zs l. says-so _ (z ∷ zs) (ap suc l)))
 
 pub some-numbers : (value : List ℕ) → Says (λ ns. 1 ≤ length ns) (numbers value)
 unfolding numbers
@@ -81,7 +79,7 @@ some-numbers value ns e = let i = entries-sound value in omega (arith, each-leng
 
 some-arities-in : (value : List ℕ) → Says (λ ns. 1 ≤ length ns) (numberList Arities value)
 unfolding numberList row numbersOf
-some-arities-in value = said _ _ (some-numbers value) (λ ns s. passed 5 _ _ (λ h. spoken _ ns s))
+some-arities-in value = said _ _ (some-numbers value) (λ ns s. passed 5 _ _ (λ h. says-so _ ns s))
 
 record GoodArities (ns : List ℕ) : Type 0 where
   some-one : 1 ≤ length ns
@@ -90,7 +88,9 @@ record GoodArities (ns : List ℕ) : Type 0 where
 
 arities-in : (value : List ℕ) → Says GoodArities (arityList value)
 unfolding arityList row
-arities-in value = said {P = λ ns. ((n : ℕ) → List·Memᴰ n ns → InRow Arities n) × (1 ≤ length ns)} _ _ (λ ns e. (list-in Arities value ns e, some-arities-in value ns e)) (λ ns (h, s). passed 6 _ _ (λ l. spoken _ ns (record { some-one = s; most = at-most _ _ l; each-one = λ a m. h a m .1 })))
+arities-in value =
+    said {P = λ ns. ((n : ℕ) → List·Memᴰ n ns → InRow Arities n) × (1 ≤ length ns)} _ _ (λ ns e. (list-in Arities value ns e, some-arities-in value ns e))
+    (λ ns (h, s). passed 6 _ _ (λ l. says-so _ ns (record { some-one = s; most = leb-true _ _ l; each-one = λ a m. h a m .1 })))
 
 record GoodFinal (n : ℕ) (qs : List ℕ) : Type 0 where
   below : (q : ℕ) → List·Memᴰ q qs → q < n
@@ -99,7 +99,9 @@ record GoodFinal (n : ℕ) (qs : List ℕ) : Type 0 where
 -- A final list has states only, and ascends.
 finals-in : (kind : Kind) (n : ℕ) (value : List ℕ) → Says (GoodFinal n) (finalList kind n value)
 unfolding finalList
-finals-in kind n value = said _ _ (anything _) (λ qs u. passed 5 _ _ (λ below. passed 7 _ _ (λ ascends. spoken _ qs (record { below = λ q m. ltb-true q n (all-mem (λ q. ltb q n) qs below q m); ascends = ascending-exact qs .0 ascends }))))
+finals-in kind n value =
+    said _ _ (anything _) (λ qs u. passed 5 _ _
+    (λ below. passed 7 _ _ (λ ascends. says-so _ qs (record { below = λ q m. ltb-true q n (all-mem (λ q. ltb q n) qs below q m); ascends = ascending-exact qs .0 ascends }))))
 
 length-dropLast : (q : ℕ) (qs : List ℕ) → length (dropLast (q ∷ qs)) ≡ length qs
 length-dropLast q [] = refl
@@ -128,14 +130,14 @@ transition-in arities n value = said _ _ (anything _) go
 
     go : (ns : List ℕ) → Unit {0} → Says (GoodTransition arities n) (fromNumbers arities n ns)
     go [] u t e = let z : _≡_ {A = ℕ} 0 1 = cc in absurd (omega arith)
-    go (f ∷ qs) u t e = passed _ _ _ (λ h. passed _ _ _ (λ l. spoken (GoodTransition arities n) _ (good f qs h l))) t e
+    go (f ∷ qs) u t e = passed _ _ _ (λ h. passed _ _ _ (λ l. says-so (GoodTransition arities n) _ (good f qs h l))) t e
 
 term-in : (arities value : List ℕ) → Says (GoodTerm arities) (term arities value)
 unfolding term
 term-in arities value = said _ _ (anything _) (λ ts u. passed 5 _ _ (λ h. passed 6 _ _ (λ l t e.
     let (q, ranked) = preorder-exact arities ts t .0 e in
     let (listed, low) = tokens-exact arities t .0 (rw q h) in
-    record { ranked = ranked; listed = listed; low = low; tokens = rw q (at-most _ _ l) })))
+    record { ranked = ranked; listed = listed; low = low; tokens = rw q (leb-true _ _ l) })))
 
 -- A left side is no bare variable, and its variables are in order.
 record LeftShaped (arities : List ℕ) (l : Term ℕ) : Type 0 where
@@ -147,13 +149,13 @@ left-shaped : (arities value : List ℕ) → Says (LeftShaped arities) (leftSide
 unfolding leftSide bare
 left-shaped arities value = said _ _ (term-in arities value) (λ l good. passed _ _ _ (λ h.
     let (b, s) = and-eq-true-iff (not (bare l)) _ .0 h in
-    spoken _ l (record { good = good; notBare = λ x e. not-iff (bare l) .0 b (rw e refl); inOrder = same-lists _ _ s })))
+    says-so _ l (record { good = good; notBare = λ x e. not-iff (bare l) .0 b (rw e refl); inOrder = same-lists _ _ s })))
 
 -- It has at most four variables.
-four : (arities : List ℕ) (l : Term ℕ) → LeftShaped arities l → length (variables l) ≤ 4
-four arities l s = elim (decLe (length (variables l)) 4) [
+at-most-four : (arities : List ℕ) (l : Term ℕ) → LeftShaped arities l → length (variables l) ≤ mostVariables
+at-most-four arities l s = elim (decLe (length (variables l)) mostVariables) [
   | yes h ↦ h
-  | no h ↦ absurd (omega (arith, s .good .low 4 (rw (← s .inOrder) at (order-mem 0 (length (variables l)) 4 (omega arith) (omega arith)))))
+  | no h ↦ absurd (omega (arith, s .good .low mostVariables (rw (← s .inOrder) at (order-mem 0 (length (variables l)) mostVariables (omega arith) (omega arith)))))
 ]
 
 record RightShaped (arities : List ℕ) (l r : Term ℕ) : Type 0 where
@@ -162,7 +164,9 @@ record RightShaped (arities : List ℕ) (l r : Term ℕ) : Type 0 where
 
 right-shaped : (arities : List ℕ) (l : Term ℕ) (value : List ℕ) → Says (RightShaped arities l) (rightSide arities l value)
 unfolding rightSide
-right-shaped arities l value = said _ _ (term-in arities value) (λ r good. passed _ _ _ (λ h. spoken _ r (record { good = good; known-left = λ x m. listed-iff x (variables l) .0 (all-mem (λ x. any (variables l) (eqb x)) (variables r) h x m) })))
+right-shaped arities l value =
+    said _ _ (term-in arities value) (λ r good.
+    passed _ _ _ (λ h. says-so _ r (record { good = good; known-left = λ x m. listed-iff x (variables l) .0 (all-mem (λ x. any (variables l) (eqb x)) (variables r) h x m) })))
 
 record GoodMerge (n : ℕ) (cs : List ℕ) : Type 0 where
   count : length cs ≡ n
@@ -171,14 +175,17 @@ record GoodMerge (n : ℕ) (cs : List ℕ) : Type 0 where
 
 merge-in : (n : ℕ) (value : List ℕ) → Says (GoodMerge n) (classList n value)
 unfolding classList row
-merge-in n value = said _ _ (list-in Merge value) (λ cs h. passed 6 _ _ (λ l. passed 11 _ _ (λ t. spoken _ cs (record { count = equal-iff (length cs) n .0 l; low = λ c m. h c m .1; in-turn = numbered-exact cs .0 t }))))
+merge-in n value =
+    said _ _ (list-in Merge value) (λ cs h. passed 6 _ _
+    (λ l. passed 11 _ _ (λ t. says-so _ cs (record { count = equal-iff (length cs) n .0 l; low = λ c m. h c m .1; in-turn = numbered-exact cs .0 t }))))
 
 -- Whatever a reader gives fulfils P.
 abbrev pub Reads : {X : Type 0} → (X → Type 0) → Reader X → Type 0
 Reads {X} P reader = (line : ℕ) (rest : List ℕ) (x : X) (line′ : ℕ) (rest′ : List ℕ) → reader line rest ≡ gave x line′ rest′ → P x
 
 module _ {X Y : Type 0} {P : X → Type 0} {Q : Y → Type 0} where
-  went-on : (r : Reading X) (k : X → Reader Y) → ((x : X) (line : ℕ) (rest : List ℕ) → r ≡ gave x line rest → P x) → ((x : X) → P x → Reads Q (k x)) → (y : Y) (line : ℕ) (rest : List ℕ) → goOn r k ≡ gave y line rest → Q y
+  went-on : (r : Reading X) (k : X → Reader Y) → ((x : X) (line : ℕ) (rest : List ℕ) → r ≡ gave x line rest → P x) → ((x : X) → P x → Reads Q (k x))
+      → (y : Y) (line : ℕ) (rest : List ℕ) → goOn r k ≡ gave y line rest → Q y
   unfolding goOn
   went-on (refused number line) k h g y n bs e = let z : _≡_ {A = ℕ} 0 1 = cc in absurd (omega arith)
   went-on (gave x line rest) k h g y n bs e = g x (h x line rest refl) line rest y n bs e
@@ -199,29 +206,28 @@ given Q y h line rest x line′ rest′ e = let same : y ≡ x = cc in rw same a
 pub any-read : {Y : Type 0} (r : Reader Y) → Reads (λ y. Unit {0}) r
 any-read r line rest y line′ rest′ e = tt
 
-on-line : {X : Type 0} (P : X → Type 0) (j : Checked (Said X)) → Says (λ s. P (s .what)) j → (line : ℕ) (x : X) (line′ : ℕ) (rest′ : List ℕ) → onLine line j ≡ gave x line′ rest′ → P x
+said-on-line : {X : Type 0} (P : X → Type 0) (j : Checked (Said X)) → Says (λ s. P (s .what)) j → (line : ℕ) (x : X) (line′ : ℕ) (rest′ : List ℕ) → onLine line j ≡ gave x line′ rest′ → P x
 unfolding onLine
-on-line P (fault n) h line x line′ rest′ e = let z : _≡_ {A = ℕ} 0 1 = cc in absurd (omega arith)
-on-line P (says s) h line x line′ rest′ e = let same : s .what ≡ x = cc in rw same at (h s refl)
+said-on-line P (fault n) h line x line′ rest′ e = let z : _≡_ {A = ℕ} 0 1 = cc in absurd (omega arith)
+said-on-line P (says s) h line x line′ rest′ e = let same : s .what ≡ x = cc in rw same at (h s refl)
 
 -- What a line gives is what its judgement says.
 pub line-read : {X : Type 0} {P : X → Type 0} (judge : List ℕ → Checked X) → ((value : List ℕ) → Says P (judge value)) → (key : String) → Reads P (lineOf key judge)
 unfolding lineOf checkedLine
-line-read {P = P} judge h key line rest = on-line P _ (said _ _ (anything (takeLine key rest)) (λ l u. said _ _ (h (l .what)) (λ x p. spoken (λ s. P (s .what)) _ p))) line
-
-both : {X : Type 0} {P : X → Type 0} {x : X} {xs : List X} → P x → ((y : X) → List·Memᴰ y xs → P y) → (y : X) → List·Memᴰ y (x ∷ xs) → P y
-both p ps y (List·Memᴰ·head e) = rw e p
-both p ps y (List·Memᴰ·tail m) = ps y m
+line-read {P = P} judge h key line rest = said-on-line P _ (said _ _ (anything (takeLine key rest)) (λ l u. said _ _ (h (l .what)) (λ x p. says-so (λ s. P (s .what)) _ p))) line
 
 -- What is read many times holds of each, and there are as many.
 times-read : {X : Type 0} {P : X → Type 0} (n : ℕ) (r : Reader X) → Reads P r → Reads (λ xs. (length xs ≡ n) × ((x : X) → List·Memᴰ x xs → P x)) (times n r)
 unfolding times
 times-read zero r h = given _ [] (refl, λ x m. absurd (List·Memᴰ·not-nil m))
-times-read (suc n) r h = read r _ h (λ x p. read (times n r) _ (times-read n r h) (λ xs (l, ps). given _ (x ∷ xs) (ap suc l, both p ps)))
+times-read (suc n) r h = read r _ h (λ x p. read (times n r) _ (times-read n r h) (λ xs (l, ps). given _ (x ∷ xs) (ap suc l, all-cons p ps)))
 
 rule-read : (arities : List ℕ) → Reads (GoodRule arities) (rule arities)
 unfolding rule variableCount
-rule-read arities = read _ _ (line-read (leftSide arities) (left-shaped arities) "l") (λ l s. read _ _ (line-read (rightSide arities l) (right-shaped arities l) "r") (λ r t. given _ _ (record { shaped = record { notBare = s .notBare; inOrder = s .inOrder; fromLeft = t .known-left }; left = s .good; right = t .good; few = four arities l s })))
+rule-read arities =
+    read _ _ (line-read (leftSide arities) (left-shaped arities) "l")
+    (λ l s. read _ _ (line-read (rightSide arities l) (right-shaped arities l) "r")
+    (λ r t. given _ _ (record { shaped = record { notBare = s .notBare; inOrder = s .inOrder; fromLeft = t .known-left }; left = s .good; right = t .good; few = at-most-four arities l s })))
 
 -- What the lines give in their order is well formed.
 certificate-read : Reads WellFormed certificate
@@ -254,14 +260,18 @@ certificate-read =
       merge-numbered = sm′ .in-turn;
     })))))))))))))))
 
--- A certificate that a file holds is well formed.
-pub admitted : (file : List ℕ) (c : Certificate) → readFile file ≡ holds c → WellFormed c
+-- The lines of a file that holds c give c, and it is not too long.
+pub held : (file : List ℕ) (c : Certificate) → readFile file ≡ holds c → (L : ℕ) × (rest : List ℕ) × (certificate 1 file ≡ gave c L rest) × (length file ≤ mostBytes)
 unfolding readFile wholeFile
-admitted file c e = elim (decided (leb (length file) mostBytes)) [
-  | inl h ↦ whole (certificate 1 file) (certificate-read 1 file) (rw (h, readFile) at e)
+held file c e = elim (decided (leb (length file) mostBytes)) [
+  | inl h ↦ let (L, rest, g) = whole (certificate 1 file) (rw (h, readFile) at e) in (L, rest, g, leb-true (length file) mostBytes h)
   | inr h ↦ let f = rw (h, readFile) at e in let z : _≡_ {A = ℕ} 0 1 = cc in absurd (omega arith)
 ]
   where
-    whole : (r : Reading Certificate) → ((c : Certificate) (line : ℕ) (rest : List ℕ) → r ≡ gave c line rest → WellFormed c) → wholeFile r ≡ holds c → WellFormed c
-    whole (refused number line) h e = let z : _≡_ {A = ℕ} 0 1 = cc in absurd (omega arith)
-    whole (gave d line rest) h e = let same : d ≡ c = cc in rw same at (h d line rest refl)
+    whole : (r : Reading Certificate) → wholeFile r ≡ holds c → (L : ℕ) × (rest : List ℕ) × (r ≡ gave c L rest)
+    whole (refused number line) e = let z : _≡_ {A = ℕ} 0 1 = cc in absurd (omega arith)
+    whole (gave d L rest) e = (L, rest, cc)
+
+-- A certificate that a file holds is well formed.
+pub admitted : (file : List ℕ) (c : Certificate) → readFile file ≡ holds c → WellFormed c
+admitted file c e = let (L, rest, g, short) = held file c e in certificate-read 1 file c L rest g

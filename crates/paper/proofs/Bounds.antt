@@ -15,7 +15,7 @@ use Rattle.theory.proofs.Merged.{merged-in-range}
 use Rattle.theory.proofs.Nth.{nth-mem, nth-below}
 use Rattle.theory.proofs.Search.{left-below}
 use Rattle.paper.specs.Bytes.{bytes}
-use Rattle.paper.specs.Limits.{mostBudget, mostStates, lastState, mostDigits, leastBuffer, mostRules, lastVariable}
+use Rattle.paper.specs.Limits.{mostBudget, mostStates, lastState, mostDigits, leastBuffer, mostRules, mostVariables}
 use Rattle.paper.specs.Certificate.{Certificate}
 use Rattle.paper.specs.Format.{Refusal, too-long, on-line}
 use Rattle.paper.specs.Meaning.{malformed, unsuitable, critical, accepted, stopped, Verdict, Sharing, Closure, total, SharingMeans, ClosureMeans, Means, Given, SharingGiven, ClosureGiven}
@@ -38,11 +38,11 @@ pub classes-bound : (c : Certificate) → WellFormed c → classes (c .merge) �
 unfolding classes
 classes-bound c w = omega (arith, largest-bound (c .merge) lastState (w .merge))
 
-total-rules : (k : ℕ) (R : List Rule) → k ≤ mostStates → ((rule : Rule) → List·Memᴰ rule R → variableCount rule ≤ 4) → total k R ≤ length R * mostStates ^ 4
+total-rules : (k : ℕ) (R : List Rule) → k ≤ mostStates → ((rule : Rule) → List·Memᴰ rule R → variableCount rule ≤ mostVariables) → total k R ≤ length R * mostStates ^ mostVariables
 unfolding total
 total-rules k [] l h = omega arith
 total-rules k (rule ∷ R) l h =
-    let power : k ^ variableCount rule ≤ mostStates ^ 4 = le-trans (pow-le-pow-left l (variableCount rule)) (pow-le-pow-right (omega arith) (h rule (List·Memᴰ·head refl))) in
+    let power : k ^ variableCount rule ≤ mostStates ^ mostVariables = le-trans (pow-le-pow-left l (variableCount rule)) (pow-le-pow-right (omega arith) (h rule (List·Memᴰ·head refl))) in
     omega (arith, total-rules k R l (λ r m. h r (List·Memᴰ·tail m)))
 
 -- The total's largest value is 32 x 1,048,576 = 33,554,432.
@@ -52,7 +52,7 @@ total-most c w = omega (arith, total-rules (classes (c .merge)) (c .rules) (clas
 -- A critical pair of rule i, the classes xs and the class q, found at the n-th substitution.
 pub record CriticalRanged (i : ℕ) (xs : List ℕ) (q n : ℕ) : Type 0 where
   pub rule : i < mostRules
-  pub variables : length xs ≤ suc lastVariable
+  pub variables : length xs ≤ mostVariables
   pub classes : (x : ℕ) → List·Memᴰ x xs → x < mostStates
   pub class : q < mostStates
   pub examined : n ≤ mostBudget
@@ -78,7 +78,8 @@ Ranged (stopped examined) = ClosureRanged (Closure.stopped examined)
 module _ (c : Certificate) (w : WellFormed c) where
   pub sharing-ranged : (s : Sharing) → SharingGiven c s → SharingRanged s
   unfolding SharingGiven SharingMeans SharingRanged merged
-  sharing-ranged (Sharing.shared q p) (s, t) = (omega (arith, final-classes (c .merge) (c .A) q (t .itself .class), classes-bound c w), omega (arith, w .B .final p (t .itself .state), w .B .most-states))
+  sharing-ranged (Sharing.shared q p) (s, t) =
+      (omega (arith, final-classes (c .merge) (c .A) q (t .itself .class), classes-bound c w), omega (arith, w .B .final p (t .itself .state), w .B .most-states))
   sharing-ranged Sharing.nothing n = tt
 
   pub closure-ranged : (k : Closure) → ClosureGiven c k → ClosureRanged k
@@ -113,33 +114,34 @@ verdict-ranged file = elim (refused-or-holds file) [
 ]
 
 -- Counts and lines of at most l + 1 digits, all other numbers of at most s + 1, and at most four classes.
-pub record CriticalFits (s l i : ℕ) (xs : List ℕ) (q n : ℕ) : Type 0 where
+pub record CriticalShort (s l i : ℕ) (xs : List ℕ) (q n : ℕ) : Type 0 where
   pub rule : i < 10 ^ suc s
-  pub four : length xs ≤ 4
+  pub four : length xs ≤ mostVariables
   pub classes : (x : ℕ) → List·Memᴰ x xs → x < 10 ^ suc s
   pub class : q < 10 ^ suc s
   pub examined : n < 10 ^ suc l
 
-unfoldable pub Fits : (s l : ℕ) → Verdict → Type 0
-Fits s l (malformed number none) = number < 10 ^ suc s
-Fits s l (malformed number (some line)) = (number < 10 ^ suc s) × (line < 10 ^ suc l)
-Fits s l (unsuitable class bad) = (class < 10 ^ suc s) × (bad < 10 ^ suc s)
-Fits s l (critical rule xs class examined) = CriticalFits s l rule xs class examined
-Fits s l (accepted examined) = examined < 10 ^ suc l
-Fits s l (stopped examined) = examined < 10 ^ suc l
+unfoldable pub Short : (s l : ℕ) → Verdict → Type 0
+Short s l (malformed number none) = number < 10 ^ suc s
+Short s l (malformed number (some line)) = (number < 10 ^ suc s) × (line < 10 ^ suc l)
+Short s l (unsuitable class bad) = (class < 10 ^ suc s) × (bad < 10 ^ suc s)
+Short s l (critical rule xs class examined) = CriticalShort s l rule xs class examined
+Short s l (accepted examined) = examined < 10 ^ suc l
+Short s l (stopped examined) = examined < 10 ^ suc l
 
 -- The eight lines are as long as their keys and values.
-pub eight-length : (k v : String) (a b c d e f g : List ℕ) → length (eight k v a b c d e f g) ≡ length (bytes k) + length (bytes v) + length a + length b + length c + length d + length e + length f + length g + 48
+pub eight-length : (k v : String) (a b c d e f g : List ℕ)
+    → length (eight k v a b c d e f g) ≡ length (bytes k) + length (bytes v) + length a + length b + length c + length d + length e + length f + length g + 48
 unfolding eight bytes
 eight-length k v a b c d e f g = simp (length-append, line-length) (omega arith)
 
 -- At most four classes of at most s + 1 digits, with their commas.
-pub four-classes : (s : ℕ) (xs : List ℕ) → length xs ≤ 4 → ((x : ℕ) → List·Memᴰ x xs → x < 10 ^ suc s) → length (decimals xs) ≤ suc (suc s) * 4 - 1
+pub four-classes : (s : ℕ) (xs : List ℕ) → length xs ≤ mostVariables → ((x : ℕ) → List·Memᴰ x xs → x < 10 ^ suc s) → length (decimals xs) ≤ suc (suc s) * mostVariables - 1
 four-classes s xs four h = omega (arith, decimals-length s xs h, mul-le-mul-left (suc (suc s)) four)
 
 -- The answer to critical is the longest: rule, four classes with their commas, class, and the examined count.
-pub answer-length : (s l : ℕ) (v : Verdict) → Fits s l v → length (answer v) ≤ 76 + 6 * s + l
-unfolding answer dash bytes Fits decimalIf
+pub answer-length : (s l : ℕ) (v : Verdict) → Short s l v → length (answer v) ≤ 76 + 6 * s + l
+unfolding answer dash bytes Short decimalIf
 answer-length s l (malformed number none) h = rw eight-length (omega (arith, decimal-length s number h))
 answer-length s l (malformed number (some line)) (h, g) = rw eight-length (omega (arith, decimal-length s number h, decimal-length l line g))
 answer-length s l (unsuitable class bad) (h, g) = rw eight-length (omega (arith, decimal-length s class h, decimal-length s bad g, decimal-length 0 0 (omega arith)))
@@ -149,22 +151,28 @@ answer-length s l (accepted n) h = rw eight-length (omega (arith, decimal-length
 answer-length s l (stopped n) h = rw eight-length (omega (arith, decimal-length l n h))
 
 -- In a file's verdict a count or a line has as many digits as a number in a file may have, and any other number has two.
-ranged-fits : (v : Verdict) → Ranged v → Fits 1 (mostDigits - 1) v
-unfolding Ranged SharingRanged ClosureRanged Fits
-ranged-fits (malformed number line) r = refusal r
+ranged-short : (v : Verdict) → Ranged v → Short 1 (mostDigits - 1) v
+unfolding Ranged SharingRanged ClosureRanged Short
+ranged-short (malformed number line) r = refusal r
   where
-    refusal : {number : ℕ} {line : Option ℕ} → Refusal number line → Fits 1 (mostDigits - 1) (malformed number line)
+    refusal : {number : ℕ} {line : Option ℕ} → Refusal number line → Short 1 (mostDigits - 1) (malformed number line)
     refusal too-long = omega arith
     refusal (on-line l h m n) = (omega arith, omega arith)
-ranged-fits (unsuitable class bad) (h, g) = (omega arith, omega arith)
-ranged-fits (critical rule xs class n) r = record { rule = omega (arith, r .rule); four = omega (arith, r .variables); classes = λ x m. omega (arith, r .classes x m); class = omega (arith, r .class); examined = omega (arith, r .examined) }
-ranged-fits (accepted n) h = omega arith
-ranged-fits (stopped n) h = omega arith
+ranged-short (unsuitable class bad) (h, g) = (omega arith, omega arith)
+ranged-short (critical rule xs class n) r = record {
+  rule = omega (arith, r .rule);
+  four = omega (arith, r .variables);
+  classes = λ x m. omega (arith, r .classes x m);
+  class = omega (arith, r .class);
+  examined = omega (arith, r .examined);
+}
+ranged-short (accepted n) h = omega arith
+ranged-short (stopped n) h = omega arith
 
 -- The longest answer to a file has at most 89 bytes: `verdict=critical` with a rule and five classes of two digits, and a count of as many digits as a budget.
 pub longest-answer : (file : List ℕ) → length (answerOf file) ≤ 89
 unfolding answerOf
-longest-answer file = answer-length 1 (mostDigits - 1) (verdictOf file) (ranged-fits (verdictOf file) (verdict-ranged file))
+longest-answer file = answer-length 1 (mostDigits - 1) (verdictOf file) (ranged-short (verdictOf file) (verdict-ranged file))
 
 -- It is under 128 bytes.
 pub answer-short : (file : List ℕ) → length (answerOf file) < leastBuffer

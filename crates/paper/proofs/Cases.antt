@@ -37,7 +37,9 @@ length-substitutions k (suc v) = length-spread (countFrom 0 k) (substitutions k 
 pub length-cases : (k n : ℕ) (R : List Rule) → length (cases k n R) ≡ total k R
 unfolding cases total
 length-cases k n [] = refl
-length-cases k n (rule ∷ R) = length-append (map (case n rule) (substitutions k (variableCount rule))) (cases k (suc n) R) ∙ rw (length-map (substitutions k (variableCount rule)) (case n rule), length-substitutions, length-cases k (suc n) R)
+length-cases k n (rule ∷ R) =
+    length-append (map (case n rule) (substitutions k (variableCount rule))) (cases k (suc n) R)
+    ∙ rw (length-map (substitutions k (variableCount rule)) (case n rule), length-substitutions, length-cases k (suc n) R)
 
 pub cases-sound : (k n : ℕ) (R : List Rule) {c : Case} → List·Memᴰ c (cases k n R) → List·Memᴰ (c .rule) R × List·Memᴰ (c .σ) (substitutions k (variableCount (c .rule)))
 unfolding cases
@@ -48,7 +50,8 @@ cases-sound k n (rule ∷ R) m = elim (List·Memᴰ·append-cases (map (case n r
 ]
 
 -- The substitutions of the rule number i stand there under its number.
-pub cases-complete : (k n : ℕ) (R : List Rule) (i j : ℕ) (rule : Rule) {σ : List ℕ} → Nth R i rule → List·Memᴰ σ (substitutions k (variableCount rule)) → j ≡ n + i → List·Memᴰ (case j rule σ) (cases k n R)
+pub cases-complete : (k n : ℕ) (R : List Rule) (i j : ℕ) (rule : Rule) {σ : List ℕ} → Nth R i rule → List·Memᴰ σ (substitutions k (variableCount rule)) → j ≡ n + i
+    → List·Memᴰ (case j rule σ) (cases k n R)
 unfolding cases Nth
 cases-complete k n [] i j rule l m e = absurd l
 cases-complete k n (r ∷ R) zero j rule {σ} l m e =
@@ -61,7 +64,9 @@ module _ (M : Automaton) (R : List Rule) where
   pub critical-iff : (c : Case) (q : ℕ) → (isCritical M (c .rule) (c .σ) q ≡ true) ↔ CriticalFor M c q
   unfolding isCritical
   critical-iff c q = (
-    λ e. let (l, r) = and-eq-true-iff (value M (entry (c .σ)) (c .rule .left) q) _ .0 e in record { left = value-exact M (entry (c .σ)) (c .rule .left) q .0 l; notRight = λ g. not-iff _ .0 r (value-exact M (entry (c .σ)) (c .rule .right) q .1 g) },
+    λ e.
+        let (l, r) = and-eq-true-iff (value M (entry (c .σ)) (c .rule .left) q) _ .0 e in
+        record { left = value-exact M (entry (c .σ)) (c .rule .left) q .0 l; notRight = λ g. not-iff _ .0 r (value-exact M (entry (c .σ)) (c .rule .right) q .1 g) },
     λ k. and-eq-true-iff _ _ .1 (value-exact M (entry (c .σ)) (c .rule .left) q .1 (k .left), not-iff _ .1 (λ v. k .notRight (value-exact M (entry (c .σ)) (c .rule .right) q .0 v))),
   )
 

@@ -1,5 +1,5 @@
--- The theorems of document 01 for every file.
-use mathlib.Core.Path.{_≡_, refl, sym, ap₂, _∙_}
+-- The theorems of the scope for every file.
+use mathlib.Core.Path.{_≡_, refl, sym, _∙_}
 use mathlib.Core.Logic.{_↔_}
 use mathlib.Core.List.{List}
 use mathlib.Core.Option.{Option}
@@ -16,9 +16,10 @@ use Rattle.theory.proofs.Ranked.{FitsAll, reached-ground, merged-fits}
 use Rattle.paper.specs.Limits.{mostBudget}
 use Rattle.paper.specs.Certificate.{Certificate}
 use Rattle.paper.specs.Format.{File, unreadable, holds, readFile}
-use Rattle.paper.specs.Meaning.{malformed, unsuitable, critical, accepted, stopped, Verdict, examined, total, placeOf, place, SharingMeans, ClosureMeans, Means, Given}
+use Rattle.paper.specs.Meaning.{malformed, unsuitable, critical, accepted, stopped, Verdict, examined, total, placeOf, SharingMeans, ClosureMeans, Means, Given}
 use Rattle.paper.specs.Computed.{verdictOn, verdictOf}
 use Rattle.paper.specs.WellFormed.{GoodAutomaton}
+use Rattle.paper.proofs.First.{first-count}
 use Rattle.paper.proofs.Exact.{verdict-exact, accepted-safe}
 use Rattle.paper.proofs.Admitted.{admitted}
 use Rattle.paper.proofs.Bounds.{total-most}
@@ -47,21 +48,23 @@ unfolding verdictOf verdictOn
 accepted-is-safe file n e c r = accepted-safe c (admitted file c r) n (rw r at e)
 
 -- Closure: without a critical pair, whatever the rules make of a tree that A accepts is accepted by the merged automaton.
-pub closed-under-rewriting : (file : List ℕ) (c : Certificate) → readFile file ≡ holds c → Acritical (merged (c .merge) (c .A)) (c .rules) → (s t : Tree) → Accepts (c .A) s → Rewrites (c .rules) s t → Accepts (merged (c .merge) (c .A)) t
+pub closed-under-rewriting : (file : List ℕ) (c : Certificate) → readFile file ≡ holds c → Acritical (merged (c .merge) (c .A)) (c .rules) → (s t : Tree)
+    → Accepts (c .A) s → Rewrites (c .rules) s t → Accepts (merged (c .merge) (c .A)) t
 closed-under-rewriting file c e a = complete (c .merge) (c .A) (c .rules) (λ rule m. admitted file c e .rules rule m .shaped) a
 
-fits : (arities : List ℕ) (A : Automaton) → GoodAutomaton arities A → FitsAll arities A
-fits arities A g t m = record { listed = g .transitions t m .symbol; full = g .transitions t m .count }
+all-fit : (arities : List ℕ) (A : Automaton) → GoodAutomaton arities A → FitsAll arities A
+all-fit arities A g t m = record { listed = g .transitions t m .symbol; full = g .transitions t m .count }
 
--- What an automaton of a file reaches is a ground term of document 01: the merged automaton (so A too), and B.
+-- What an automaton of a file reaches is a ground term of the scope: the merged automaton (so A too), and B.
 pub ground-merged : (file : List ℕ) (c : Certificate) → readFile file ≡ holds c → (t : Tree) (q : ℕ) → Reaches (merged (c .merge) (c .A)) t q → Ground (c .arities) t
-ground-merged file c e t q d = reached-ground (c .arities) _ (merged-fits (c .merge) (c .arities) (c .A) (fits (c .arities) (c .A) (admitted file c e .A))) d
+ground-merged file c e t q d = reached-ground (c .arities) _ (merged-fits (c .merge) (c .arities) (c .A) (all-fit (c .arities) (c .A) (admitted file c e .A))) d
 
 pub ground-B : (file : List ℕ) (c : Certificate) → readFile file ≡ holds c → (t : Tree) (p : ℕ) → Reaches (c .B) t p → Ground (c .arities) t
-ground-B file c e t p d = reached-ground (c .arities) (c .B) (fits (c .arities) (c .B) (admitted file c e .B)) d
+ground-B file c e t p d = reached-ground (c .arities) (c .B) (all-fit (c .arities) (c .B) (admitted file c e .B)) d
 
 -- So the tree that an unsuitable merging shares with B is one.
-pub shared-ground : (file : List ℕ) (c : Certificate) → readFile file ≡ holds c → (q p : ℕ) → verdictOf file ≡ unsuitable q p → (t : Tree) × Ground (c .arities) t × Reaches (merged (c .merge) (c .A)) t q × Reaches (c .B) t p
+pub shared-ground : (file : List ℕ) (c : Certificate) → readFile file ≡ holds c → (q p : ℕ) → verdictOf file ≡ unsuitable q p
+    → (t : Tree) × Ground (c .arities) t × Reaches (merged (c .merge) (c .A)) t q × Reaches (c .B) t p
 unfolding Given Means SharingMeans Share
 shared-ground file c e q p v =
     let (least, pair) = given-exactly file c e (unsuitable q p) .0 v in
@@ -81,16 +84,17 @@ pub within-budget : (file : List ℕ) (c : Certificate) → readFile file ≡ ho
 within-budget file c e = means-within c (verdictOf file) (given-exactly file c e (verdictOf file) .0 refl)
 
 -- The row of the table for accepted, written out.
-pub accepted-exactly : (file : List ℕ) (c : Certificate) → readFile file ≡ holds c → (n : ℕ) → (verdictOf file ≡ accepted n) ↔ (Suitable (merged (c .merge) (c .A)) (c .B) × Acritical (merged (c .merge) (c .A)) (c .rules) × (total (classes (c .merge)) (c .rules) ≤ c .budget) × (n ≡ total (classes (c .merge)) (c .rules)))
+pub accepted-exactly : (file : List ℕ) (c : Certificate) → readFile file ≡ holds c → (n : ℕ) → (verdictOf file ≡ accepted n)
+    ↔ (Suitable (merged (c .merge) (c .A)) (c .B) × Acritical (merged (c .merge) (c .A)) (c .rules) × (total (classes (c .merge)) (c .rules) ≤ c .budget)
+    × (n ≡ total (classes (c .merge)) (c .rules)))
 unfolding Given Means ClosureMeans merged
 accepted-exactly file c e n = (λ v. let (s, (a, l, m)) = given-exactly file c e (accepted n) .0 v in (s, a, l, m), λ (s, a, l, m). given-exactly file c e (accepted n) .1 (s, (a, l, m)))
 
 -- The count of a critical verdict: the earlier rules' powers of k, and the substitution's place in its rule, from 1.
-pub critical-count : (file : List ℕ) (c : Certificate) → readFile file ≡ holds c → (rule : ℕ) (xs : List ℕ) (class n : ℕ) → verdictOf file ≡ critical rule xs class n → n ≡ total (classes (c .merge)) (take rule (c .rules)) + suc (placeOf (classes (c .merge)) xs)
-unfolding Given Means ClosureMeans merged place
-critical-count file c e rule xs class n v =
-    let (s, (f, l)) = given-exactly file c e (critical rule xs class n) .0 v in
-    f .count ∙ ap₂ (λ i σ. total (classes (c .merge)) (take i (c .rules)) + suc (placeOf (classes (c .merge)) σ)) (f .number) (f .classes)
+pub critical-count : (file : List ℕ) (c : Certificate) → readFile file ≡ holds c → (rule : ℕ) (xs : List ℕ) (class n : ℕ) → verdictOf file ≡ critical rule xs class n
+    → n ≡ total (classes (c .merge)) (take rule (c .rules)) + suc (placeOf (classes (c .merge)) xs)
+unfolding Given Means ClosureMeans merged
+critical-count file c e rule xs class n v = first-count (merged (c .merge) (c .A)) (c .rules) (given-exactly file c e (critical rule xs class n) .0 v .1 .0)
 
 -- The total's largest value is 32 x 1,048,576 = 33,554,432, the largest budget.
 pub total-bound : (file : List ℕ) (c : Certificate) → readFile file ≡ holds c → total (classes (c .merge)) (c .rules) ≤ mostBudget

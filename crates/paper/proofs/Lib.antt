@@ -1,3 +1,4 @@
+-- Document 01's demands as theorems, and the laws of reading, judging and answering behind them.
 pub mod Checked
 pub mod Lines
 pub mod Preorder
@@ -33,3 +34,4 @@ pub mod ReasonsSides
 pub mod LineCount
 pub mod ReasonsFile
 pub mod LineBound
+pub mod SameTransitions

@@ -1,11 +1,12 @@
 -- Lines counted by their LFs.
 use mathlib.Core.Path.{_≡_, refl, sym, ap, _∙_}
 use mathlib.Core.Logic.{_⊎_, inl, inr}
-use mathlib.Core.List.{List, [], _∷_, _++_, append-assoc, append-nil, List·Memᴰ·head, List·Memᴰ·tail}
+use mathlib.Core.List.{List, [], _∷_, _++_, append-assoc, append-nil, List·Memᴰ·head, List·Memᴰ·tail, List·Memᴰ·cases-cons}
 use Prim.Native.Nat.{ℕ, suc, _+_}
 use Prim.Native.String.{String}
 use native.Mathlib.Omega.{arith}
 use lib.Dec.{eqb}
+use borrow.Author.Tests.{eqb-false}
 use Rattle.theory.proofs.Tests.{equal-iff}
 use Rattle.paper.specs.Bytes.{bytes, LF}
 use Rattle.paper.specs.Certificate.{Kind, Budget, Arities, States, Final, Trans, BadStates, BadFinal, BadTrans, Rules, Merge, row}
@@ -37,11 +38,18 @@ ends-none (b ∷ bs) w = elim (decided (eqb b LF)) [
   | inr h ↦ rw (h, lineEnds) (ends-none bs (λ m. w (List·Memᴰ·tail m)))
 ]
 
--- A key without LF.
-abbrev pub Plain : String → Type 0
-Plain key = lineEnds (bytes key) ≡ 0
+pub ends-without : (bs : List ℕ) → lineEnds bs ≡ 0 → Without LF bs
+unfolding lineEnds
+ends-without (b ∷ bs) e m = elim (decided (eqb b LF)) [
+  | inl h ↦ omega (arith, rw (h, lineEnds) at e)
+  | inr h ↦ elim (List·Memᴰ·cases-cons m) [ inl s ↦ eqb-false b LF h (sym s) | inr k ↦ ends-without bs (rw (h, lineEnds) at e) k ]
+]
 
-pub row-plain : (kind : Kind) → Plain (row kind .key)
+-- A key without LF.
+abbrev pub Unbroken : String → Type 0
+Unbroken key = lineEnds (bytes key) ≡ 0
+
+pub row-plain : (kind : Kind) → Unbroken (row kind .key)
 unfolding row bytes lineEnds
 row-plain Budget = refl
 row-plain Arities = refl
@@ -54,7 +62,7 @@ row-plain BadTrans = refl
 row-plain Rules = refl
 row-plain Merge = refl
 
-pub letter-plain : Plain "t" × Plain "u" × Plain "l" × Plain "r"
+pub letter-plain : Unbroken "t" × Unbroken "u" × Unbroken "l" × Unbroken "r"
 unfolding bytes lineEnds
 letter-plain = (refl, refl, refl, refl)
 
@@ -62,7 +70,7 @@ pub begin-here : (number : ℕ) (bs : List ℕ) → Begin number bs number bs
 unfolding lineEnds
 begin-here number bs = record { before = []; parts = refl; whole = inl refl; count = omega arith }
 
-pub begin-line : (key : String) {value rest bs : List ℕ} (number : ℕ) → Plain key → lineWith key value ++ rest ≡ bs → Without LF value → Begin number bs (suc number) rest
+pub begin-line : (key : String) {value rest bs : List ℕ} (number : ℕ) → Unbroken key → lineWith key value ++ rest ≡ bs → Without LF value → Begin number bs (suc number) rest
 unfolding lineWith lineEnds bytes
 begin-line key {value} {rest} number plain e w = record {
   before = lineWith key value;

@@ -62,8 +62,14 @@ module _ (ps cs : List ℕ) (p c : ℕ) (w : SamePartition ps cs) (fits : (i : �
         | no a ↦ elim (decLt j (length ps)) [
           | yes b ↦
               let (to, from) = fits j b in
-              rw (last-new ps p i h a, old-new ps p j b, last-new cs c i (omega (arith, longer)) (λ g. a (omega (arith, w .count))), old-new cs c j (omega (arith, w .count))) (λ e. sym (to (sym e)), λ e. sym (from (sym e)))
-          | no b ↦ rw (last-new ps p i h a, last-new ps p j l b, last-new cs c i (omega (arith, longer)) (λ g. a (omega (arith, w .count))), last-new cs c j (omega (arith, longer)) (λ g. b (omega (arith, w .count)))) (λ e. refl, λ e. refl)
+              rw (last-new ps p i h a, old-new ps p j b, last-new cs c i (omega (arith, longer)) (λ g. a (omega (arith, w .count))), old-new cs c j (omega (arith, w .count)))
+              (λ e. sym (to (sym e)), λ e. sym (from (sym e)))
+          | no b ↦ rw (
+            last-new ps p i h a,
+            last-new ps p j l b,
+            last-new cs c i (omega (arith, longer)) (λ g. a (omega (arith, w .count))),
+            last-new cs c j (omega (arith, longer)) (λ g. b (omega (arith, w .count))),
+          ) (λ e. refl, λ e. refl)
         ]
       ]
 

@@ -17,7 +17,7 @@ use Rattle.paper.specs.Checked.{says, _>>_, _unless_}
 use Rattle.paper.specs.Fields.{all, digit, isNumber, fromDigits, number}
 use Rattle.paper.specs.Answer.{digits, decimal}
 use Rattle.paper.proofs.Smallest.{decided}
-use Rattle.paper.proofs.Checked.{passed, spoken}
+use Rattle.paper.proofs.Checked.{passed, says-so}
 
 one-digit : (k n : ℕ) → n < 10 → digits k n ≡ (digit0 + n) ∷ []
 unfolding digits
@@ -88,16 +88,21 @@ unfolding fromDigits
 decimal-reads = by-tens {P = λ n. fromDigits 0 (decimal n) ≡ n} (λ n h. rw (decimal-one n h) (omega arith)) (λ n h i. rw (decimal-more n h, from-append, i) (omega arith))
 
 -- The first digit of a decimal is 0 only where the number is.
-pub record First (n : ℕ) : Type 0 where
+pub record FirstDigit (n : ℕ) : Type 0 where
   pub first : ℕ
   pub rest : List ℕ
   pub is : decimal n ≡ first ∷ rest
   pub zero-alone : first ≡ digit0 → n ≡ 0
 
-pub decimal-first : (n : ℕ) → First n
-decimal-first = by-tens {P = First}
+pub decimal-first : (n : ℕ) → FirstDigit n
+decimal-first = by-tens {P = FirstDigit}
     (λ n h. record { first = digit0 + n; rest = []; is = decimal-one n h; zero-alone = λ e. omega arith })
-    (λ n h i. record { first = i .first; rest = i .rest ++ ((digit0 + n % 10) ∷ []); is = decimal-more n h ∙ ap (λ ds. ds ++ ((digit0 + n % 10) ∷ [])) (i .is); zero-alone = λ e. absurd (omega (arith, i .zero-alone e)) })
+    (λ n h i. record {
+      first = i .first;
+      rest = i .rest ++ ((digit0 + n % 10) ∷ []);
+      is = decimal-more n h ∙ ap (λ ds. ds ++ ((digit0 + n % 10) ∷ [])) (i .is);
+      zero-alone = λ e. absurd (omega (arith, i .zero-alone e));
+    })
 
 -- .. and none is a leading zero.
 pub no-leading-zero : (n b : ℕ) (bs : List ℕ) → decimal n ≡ digit0 ∷ b ∷ bs → ⊥
@@ -185,6 +190,6 @@ number-small bs w = omega (arith, digits-bound bs 0 (w .are-digits), pow-le-pow-
 pub number-exact : (bs : List ℕ) (n : ℕ) → (number bs ≡ says n) ↔ ((decimal n ≡ bs) × (n < 10 ^ mostDigits))
 unfolding number
 number-exact bs n = (
-  passed {Q = λ n. (decimal n ≡ bs) × (n < 10 ^ mostDigits)} 4 (isNumber bs) _ (λ is. let w = number-facts bs is in spoken _ (fromDigits 0 bs) (w .back, number-small bs w)) n,
+  passed {Q = λ n. (decimal n ≡ bs) × (n < 10 ^ mostDigits)} 4 (isNumber bs) _ (λ is. let w = number-facts bs is in says-so _ (fromDigits 0 bs) (w .back, number-small bs w)) n,
   λ (e, h). rw (← e) (number-decimal n h),
 )

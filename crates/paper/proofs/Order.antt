@@ -1,4 +1,4 @@
--- A critical pair's place is document 01's order: rules as written, then x0 most significant, classes ascending.
+-- A critical pair's place is the scope's order: rules as written, then x0 most significant, classes ascending.
 use mathlib.Core.Path.{_≡_, refl, sym, ap, _∙_}
 use mathlib.Core.Logic.{_⊎_, inl, inr, _↔_}
 use mathlib.Core.List.{List, [], _∷_, List·Memᴰ, List·Memᴰ·head, List·Memᴰ·tail}

@@ -35,12 +35,12 @@ next ps k c h u = record {
   ];
 }
 
-lines : (ps : List ℕ) (k : ℕ) → Used ps k → (cs ds : List ℕ) → numbered k cs ≡ true → numbered k ds ≡ true → SamePartition (ps ++ cs) (ps ++ ds) → cs ≡ ds
+same-lines : (ps : List ℕ) (k : ℕ) → Used ps k → (cs ds : List ℕ) → numbered k cs ≡ true → numbered k ds ≡ true → SamePartition (ps ++ cs) (ps ++ ds) → cs ≡ ds
 unfolding numbered
-lines ps k u [] [] n m w = refl
-lines ps k u [] (d ∷ ds) n m w = absurd (omega (arith, w .count, length-append ps [], length-append ps (d ∷ ds)))
-lines ps k u (c ∷ cs) [] n m w = absurd (omega (arith, w .count, length-append ps [], length-append ps (c ∷ cs)))
-lines ps k u (c ∷ cs) (d ∷ ds) n m w =
+same-lines ps k u [] [] n m w = refl
+same-lines ps k u [] (d ∷ ds) n m w = absurd (omega (arith, w .count, length-append ps [], length-append ps (d ∷ ds)))
+same-lines ps k u (c ∷ cs) [] n m w = absurd (omega (arith, w .count, length-append ps [], length-append ps (c ∷ cs)))
+same-lines ps k u (c ∷ cs) (d ∷ ds) n m w =
     let (a, b) = and-eq-true-iff (leb c k) (numbered (max k (suc c)) cs) .0 n in
     let (e, f) = and-eq-true-iff (leb d k) (numbered (max k (suc d)) ds) .0 m in
     let low = leb-true c k a in
@@ -52,9 +52,9 @@ lines ps k u (c ∷ cs) (d ∷ ds) n m w =
       ]
     ] in
     let rest : SamePartition ((ps ++ (c ∷ [])) ++ cs) ((ps ++ (c ∷ [])) ++ ds) = rw (append-assoc ps (c ∷ []) cs, append-assoc ps (c ∷ []) ds) (rw (← same) at w) in
-    let tail = lines (ps ++ (c ∷ [])) (max k (suc c)) (next ps k c low u) cs ds b (rw (← same) at f) rest in
+    let tail = same-lines (ps ++ (c ∷ [])) (max k (suc c)) (next ps k c low u) cs ds b (rw (← same) at f) rest in
     cc
 
 -- One partition has one line.
 pub one-line : (cs ds : List ℕ) → Numbered cs → Numbered ds → SamePartition cs ds → cs ≡ ds
-one-line cs ds n m w = lines [] 0 (record { member = λ c h. absurd (omega arith) }) cs ds (numbered-exact cs .1 n) (numbered-exact ds .1 m) w
+one-line cs ds n m w = same-lines [] 0 (record { member = λ c h. absurd (omega arith) }) cs ds (numbered-exact cs .1 n) (numbered-exact ds .1 m) w

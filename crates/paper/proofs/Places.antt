@@ -16,7 +16,8 @@ use Rattle.paper.specs.Meaning.{total, placeOf}
 use Rattle.paper.proofs.Cases.{length-substitutions}
 
 -- Where two lists in a row are split, the split is in the first or in the second.
-split-append : {Y : Type 0} (before xs : List Y) (y : Y) (rest ys : List Y) → before ++ (y ∷ rest) ≡ xs ++ ys → ((more : List Y) × (before ++ (y ∷ more) ≡ xs)) ⊎ ((more : List Y) × (before ≡ xs ++ more) × (more ++ (y ∷ rest) ≡ ys))
+split-append : {Y : Type 0} (before xs : List Y) (y : Y) (rest ys : List Y) → before ++ (y ∷ rest) ≡ xs ++ ys
+    → ((more : List Y) × (before ++ (y ∷ more) ≡ xs)) ⊎ ((more : List Y) × (before ≡ xs ++ more) × (more ++ (y ∷ rest) ≡ ys))
 split-append [] [] y rest ys e = inr ([], refl, e)
 split-append [] (x ∷ xs) y rest ys e = inl (xs, cc)
 split-append (b ∷ bs) [] y rest ys e = inr (b ∷ bs, refl, e)
@@ -103,7 +104,9 @@ cases-place k n (rule ∷ R) before c rest e = elim (split-append before (map (c
       record { earlier = 0; listed = ap (λ c. c .rule) (m .image); number = omega (arith, ap (λ c. c .number) (m .image)); place = omega (arith, m .count, p ∙ ap (λ c. placeOf k (c .σ)) (m .image)) }
   | inr (more, h, i) ↦
       let s = cases-place k (suc n) R more c rest i in
-      let long : length before ≡ k ^ variableCount rule + length more = ap length h ∙ (length-append (map (case n rule) (substitutions k (variableCount rule))) more ∙ rw (length-map (substitutions k (variableCount rule)) (case n rule), length-substitutions)) in
+      let mine = map (case n rule) (substitutions k (variableCount rule)) in
+      let long : length before ≡ k ^ variableCount rule + length more =
+      ap length h ∙ (length-append mine more ∙ rw (length-map (substitutions k (variableCount rule)) (case n rule), length-substitutions)) in
       record { earlier = suc (s .earlier); listed = s .listed; number = omega (arith, s .number); place = omega (arith, s .place) }
 ]
 

@@ -9,14 +9,18 @@ use lib.Dec.{eqb, leb, ltb}
 use lib.ListN.{length, getD, length-append}
 use borrow.Author.Tests.{ltb-false, leb-false, eqb-false, le-ltb, le-leb, lt-leb, ne-eqb}
 use Rattle.theory.specs.Automaton.{Transition, _of_gives_}
+use Rattle.theory.proofs.Nth.{all-cons}
 use Rattle.paper.specs.Spelling.{transitionNumbers}
 use Rattle.paper.specs.Limits.{mostSymbols, lastState, mostDigits}
 use Rattle.paper.specs.Checked.{Checked, says, _>>=_, _>>_}
 use Rattle.paper.specs.Fields.{all, each, number, entries}
 use Rattle.paper.specs.Certificate.{Kind, row, Arities, Merge}
 use Rattle.paper.specs.Tables.{numbers, numbersOf, within, singleNumber, numberList, arityList, ascending, finalList, lastOf, transitionOf, fromNumbers, transition, numbered, classList}
-use Rattle.paper.specs.Reasons.{Numbers, Expected, numberLine, arityLine, finalLine, transitionLine, mergeLine, Reason, no-number, no-arities, no-states, no-row, no-tokens, no-classes, out-of-row, large-arity, large-final, unlisted, unlisted-token, no-state, no-state-in, large-variable, large-class, many-arities, miscounted, many-tokens, not-each, falling, no-term, bare-left, out-of-turn, lacking, skipping}
-use Rattle.paper.proofs.Checked.{Says, said, spoken}
+use Rattle.paper.specs.Reasons.{Numbers, Expected, numberLine, arityLine, finalLine, transitionLine, mergeLine, Reason, no-number, no-arities, no-states}
+use Rattle.paper.specs.Reasons.{no-row, no-tokens, no-classes, out-of-row, large-arity, large-final, unlisted, unlisted-token, no-state, no-state-in}
+use Rattle.paper.specs.Reasons.{large-variable, large-class, many-arities, miscounted, many-tokens, not-each, falling, no-term, bare-left, out-of-turn}
+use Rattle.paper.specs.Reasons.{lacking, skipping}
+use Rattle.paper.proofs.Checked.{Says, said, says-so}
 use Rattle.paper.proofs.Admitted.{some-numbers}
 use Rattle.paper.proofs.Numbers.{number-exact}
 use Rattle.paper.proofs.Spelling.{numbersOf-spelled, last-back}
@@ -67,8 +71,8 @@ only-numbers true (b ∷ bs) = only-each number only-number (entries (b ∷ bs))
 -- What is said of each is so of all.
 pub each-says : {Y Z : Type 0} {P : Z → Type 0} (f : Y → Checked Z) → ((y : Y) → Says P (f y)) → (ys : List Y) → Says (λ zs. (z : Z) → List·Memᴰ z zs → P z) (each f ys)
 unfolding each
-each-says f h [] = spoken _ [] (λ z m. absurd (List·Memᴰ·not-nil m))
-each-says {P = P} f h (y ∷ ys) = said _ _ (h y) (λ z p. said _ _ (each-says f h ys) (λ zs ps. spoken _ (z ∷ zs) (λ w m. elim (List·Memᴰ·cases-cons m) [ inl e ↦ rw e p | inr i ↦ ps w i ])))
+each-says f h [] = says-so _ [] (λ z m. absurd (List·Memᴰ·not-nil m))
+each-says {P = P} f h (y ∷ ys) = said _ _ (h y) (λ z p. said _ _ (each-says f h ys) (λ zs ps. says-so _ (z ∷ zs) (all-cons p ps)))
 
 -- The value's numbers, of which there is one at least where the value may not be empty.
 abbrev Read : Bool → List ℕ → List ℕ → Type 0
@@ -77,14 +81,17 @@ Read empty value ns = Numbers value ns × (empty ≡ false → 1 ≤ length ns)
 -- A value is read as the numbers that it is.
 numbers-exact : (e : Bool) (value ns : List ℕ) → (numbersOf e value ≡ says ns) ↔ Read e value ns
 unfolding numbersOf numbers
-numbers-exact e value ns = (λ d. (record { text = numbersOf-spelled e value ns d; short = small e value ns d }, λ f. some-numbers value ns (rw (f, numbersOf) at d)), λ (w, p). rw (← w .text) (numbersOf-complete e ns p (w .short)))
+numbers-exact e value ns = (
+  λ d. (record { text = numbersOf-spelled e value ns d; short = small e value ns d }, λ f. some-numbers value ns (rw (f, numbersOf) at d)),
+  λ (w, p). rw (← w .text) (numbersOf-complete e ns p (w .short)),
+)
   where
     short : (value : List ℕ) → Says (λ ns. (n : ℕ) → List·Memᴰ n ns → n < 10 ^ mostDigits) (numbers value)
     short value = each-says number (λ e n d. number-exact e n .0 d .1) (entries value)
 
     small : (e : Bool) (value : List ℕ) → Says (λ ns. (n : ℕ) → List·Memᴰ n ns → n < 10 ^ mostDigits) (numbersOf e value)
     small false value = short value
-    small true [] = spoken _ [] (λ n m. absurd (List·Memᴰ·not-nil m))
+    small true [] = says-so _ [] (λ n m. absurd (List·Memᴰ·not-nil m))
     small true (b ∷ bs) = short (b ∷ bs)
 
 -- A value is not two lists of numbers.
@@ -167,7 +174,8 @@ rising-fails p (q ∷ qs) = (
   λ (before, after, a, b, e, l). and-fails (leb (suc p) q) _ .1 (back (rising-fails q qs .1) before after a b e l),
 )
   where
-    back : (Falling (q ∷ qs) → ascending (suc q) qs ≡ false) → (before after : List ℕ) (a b : ℕ) → before ++ (a ∷ b ∷ after) ≡ p ∷ q ∷ qs → b ≤ a → (leb (suc p) q ≡ false) ⊎ (ascending (suc q) qs ≡ false)
+    back : (Falling (q ∷ qs) → ascending (suc q) qs ≡ false) → (before after : List ℕ) (a b : ℕ) → before ++ (a ∷ b ∷ after) ≡ p ∷ q ∷ qs → b ≤ a
+        → (leb (suc p) q ≡ false) ⊎ (ascending (suc q) qs ≡ false)
     back ih [] after a b e l = let s : a ≡ p = cc in let t : b ≡ q = cc in inl (lt-leb (suc p) q (omega arith))
     back ih (c ∷ before) after a b e l = inr (ih (before, after, a, b, cc, l))
 
@@ -186,12 +194,15 @@ numbered-fails k [] = (λ e. absurd (false≢true (sym e)), λ (before, after, c
 numbered-fails k (c ∷ cs) = (
   λ e. elim (and-fails (leb c k) _ .0 e) [
     | inl d ↦ ([], cs, c, refl, leb-false c k d, λ b m. absurd (List·Memᴰ·not-nil m))
-    | inr d ↦ let (before, after, a, f, l, h) = numbered-fails (max k (suc c)) cs .0 d in (c ∷ before, after, a, ap (λ l. c ∷ l) f, omega arith, λ b m. elim (List·Memᴰ·cases-cons m) [ inl e ↦ omega arith | inr i ↦ h b i ])
+    | inr d ↦
+        let (before, after, a, f, l, h) = numbered-fails (max k (suc c)) cs .0 d in
+        (c ∷ before, after, a, ap (λ l. c ∷ l) f, omega arith, λ b m. elim (List·Memᴰ·cases-cons m) [ inl e ↦ omega arith | inr i ↦ h b i ])
   ],
   λ (before, after, a, e, l, h). and-fails (leb c k) _ .1 (back (numbered-fails (max k (suc c)) cs .1) before after a e l h),
 )
   where
-    back : (Skipping (max k (suc c)) cs → numbered (max k (suc c)) cs ≡ false) → (before after : List ℕ) (a : ℕ) → before ++ (a ∷ after) ≡ c ∷ cs → k < a → ((b : ℕ) → List·Memᴰ b before → suc b < a) → (leb c k ≡ false) ⊎ (numbered (max k (suc c)) cs ≡ false)
+    back : (Skipping (max k (suc c)) cs → numbered (max k (suc c)) cs ≡ false) → (before after : List ℕ) (a : ℕ) → before ++ (a ∷ after) ≡ c ∷ cs → k < a
+        → ((b : ℕ) → List·Memᴰ b before → suc b < a) → (leb c k ≡ false) ⊎ (numbered (max k (suc c)) cs ≡ false)
     back ih [] after a e l h = let s : a ≡ c = cc in inl (lt-leb c k (omega arith))
     back ih (d ∷ before) after a e l h = let s : d ≡ c = cc in inr (ih (before, after, a, cc, omega (arith, h d (List·Memᴰ·head refl)), λ b m. h b (List·Memᴰ·tail m)))
 
@@ -247,7 +258,11 @@ module _ (value : List ℕ) where
   some-number (n ∷ ns) w h = h n ns (w .0)
 
   -- A list of numbers, whose first test is that of the range, with further tests.
-  list-judges : {e : Expected} (kind : Kind) (ts : List ℕ → List (ℕ × Bool)) (top : ℕ) → ((ns : List ℕ) → Rising 5 (ts ns) top) → (((ns : List ℕ) → Read (row kind .empty) value ns → ⊥) → Reason value e 4) → ((ns : List ℕ) → Numbers value ns → (n : ℕ) → Failed ((5, all ns (within kind)) ∷ ts ns) n → Reason value e n) → ((ns : List ℕ) → Read (row kind .empty) value ns → (n : ℕ) → Reason value e n → Failed ((5, all ns (within kind)) ∷ ts ns) n) → Judges (Numbers value) (Reason value e) (numberList kind value >>= (λ ns. checks (ts ns) (says ns)))
+  list-judges : {e : Expected} (kind : Kind) (ts : List ℕ → List (ℕ × Bool)) (top : ℕ) → ((ns : List ℕ) → Rising 5 (ts ns) top)
+      → (((ns : List ℕ) → Read (row kind .empty) value ns → ⊥) → Reason value e 4)
+      → ((ns : List ℕ) → Numbers value ns → (n : ℕ) → Failed ((5, all ns (within kind)) ∷ ts ns) n → Reason value e n)
+      → ((ns : List ℕ) → Read (row kind .empty) value ns → (n : ℕ) → Reason value e n → Failed ((5, all ns (within kind)) ∷ ts ns) n)
+      → Judges (Numbers value) (Reason value e) (numberList kind value >>= (λ ns. checks (ts ns) (says ns)))
   unfolding numberList checks _>>=_ Rising
   list-judges kind ts top rise four to back = rw read-on (reading 4 _ _ (numbers-exact _ value) (only-numbers _ value) from-four four (λ ns w.
       rw test-on (all-tested 5 ((5, all ns (within kind)) ∷ ts ns) top ns (omega arith, rise ns) (to ns (w .0)) (back ns w) (λ clear. w .0))))
@@ -268,9 +283,11 @@ module _ (value : List ℕ) where
       back ns w n (many-arities v l) = inr (inl (refl, lt-leb _ _ (rw (same-numbers v (w .0)) at l)))
 
   -- A line of final states.
-  pub finals-judges : (kind : Kind) → row kind .empty ≡ true → row kind .least ≡ 0 → row kind .greatest ≡ lastState → (states : ℕ) → Judges (Numbers value) (Reason value (finalLine states)) (finalList kind states value)
+  pub finals-judges : (kind : Kind) → row kind .empty ≡ true → row kind .least ≡ 0 → row kind .greatest ≡ lastState → (states : ℕ)
+      → Judges (Numbers value) (Reason value (finalLine states)) (finalList kind states value)
   unfolding finalList checks Failed Rising
-  finals-judges kind empty least greatest states = list-judges kind (λ qs. (5, all qs (λ q. ltb q states)) ∷ (7, ascending 0 qs) ∷ []) 7 (λ qs. omega arith) (λ h. no-states (λ qs w. h qs (w, λ e. absurd (false≢true (sym e ∙ empty))))) to back
+  finals-judges kind empty least greatest states =
+      list-judges kind (λ qs. (5, all qs (λ q. ltb q states)) ∷ (7, ascending 0 qs) ∷ []) 7 (λ qs. omega arith) (λ h. no-states (λ qs w. h qs (w, λ e. absurd (false≢true (sym e ∙ empty))))) to back
     where
       to : (qs : List ℕ) → Numbers value qs → (n : ℕ) → Failed (finalTests kind states qs) n → Reason value (finalLine states) n
       to qs w n (inl (e, f)) = let (q, m, o) = within-fails kind qs .0 f in rw e (large-final w m (elim o [ inl l ↦ absurd (omega arith) | inr l ↦ omega arith ]))
@@ -310,15 +327,23 @@ module _ (value : List ℕ) where
       Spoken t = Numbers value (transitionNumbers t)
 
       to : (f : ℕ) (qs : List ℕ) → Numbers value (f ∷ qs) → (n : ℕ) → Failed (transitionTests arities states f qs) n → Reason value (transitionLine arities states) n
-      to f qs w n (inl (e, d)) = elim (and-fails (ltb f (length arities)) _ .0 d) [ inl l ↦ rw e (unlisted w (ltb-false _ _ l)) | inr b ↦ let (q, m, l) = below-fails states qs .0 b in rw e (no-state-in w m l) ]
+      to f qs w n (inl (e, d)) =
+          elim (and-fails (ltb f (length arities)) _ .0 d) [ inl l ↦ rw e (unlisted w (ltb-false _ _ l)) | inr b ↦ let (q, m, l) = below-fails states qs .0 b in rw e (no-state-in w m l) ]
       to f qs w n (inr (inl (e, d))) = rw e (miscounted {arities = arities} w (λ l. eqb-false (length qs) (getD arities f 0 + 1) d (omega arith)))
       to f qs w n (inr (inr d)) = absurd d
 
       back : (f : ℕ) (qs : List ℕ) → Numbers value (f ∷ qs) → (n : ℕ) → Reason value (transitionLine arities states) n → Failed (transitionTests arities states f qs) n
       back f qs w n (no-row h) = absurd (h f qs w)
       back f qs w n (unlisted {f = g} v l) = let e = same-numbers v w in let same : g ≡ f = cc in inl (refl, and-fails (ltb f (length arities)) _ .1 (inl (le-ltb f _ (omega arith))))
-      back f qs w n (no-state-in {qs = ps} v m l) = let e = same-numbers v w in let same : ps ≡ qs = cc in inl (refl, and-fails (ltb f (length arities)) _ .1 (inr (below-fails states qs .1 (_, rw same at m, l))))
-      back f qs w n (miscounted {f = g} {qs = ps} v h) = let e = same-numbers v w in let same : g ≡ f = cc in let rest : ps ≡ qs = cc in inr (inl (refl, ne-eqb (length qs) (getD arities f 0 + 1) (λ l. h (rw (same, rest) (omega arith)))))
+      back f qs w n (no-state-in {qs = ps} v m l) =
+          let e = same-numbers v w in
+          let same : ps ≡ qs = cc in
+          inl (refl, and-fails (ltb f (length arities)) _ .1 (inr (below-fails states qs .1 (_, rw same at m, l))))
+      back f qs w n (miscounted {f = g} {qs = ps} v h) =
+          let e = same-numbers v w in
+          let same : g ≡ f = cc in
+          let rest : ps ≡ qs = cc in
+          inr (inl (refl, ne-eqb (length qs) (getD arities f 0 + 1) (λ l. h (rw (same, rest) (omega arith)))))
 
       whole : (f : ℕ) (qs : List ℕ) → Numbers value (f ∷ qs) → ((n : ℕ) → Reason value (transitionLine arities states) n → ⊥) → Numbers value (f ∷ (dropLast qs ++ (lastOf qs ∷ [])))
       whole f [] w clear = absurd (clear 6 (miscounted w (λ l. omega arith)))
@@ -326,4 +351,6 @@ module _ (value : List ℕ) where
 
       go : (ns : List ℕ) → Read false value ns → Judges Spoken (Reason value (transitionLine arities states)) (fromNumbers arities states ns)
       go [] w = absurd (omega (arith, w .1 refl))
-      go (f ∷ qs) w = all-tested {S = Spoken} {R = Reason value (transitionLine arities states)} 4 (transitionTests arities states f qs) 6 (f of dropLast qs gives lastOf qs) (omega arith) (to f qs (w .0)) (back f qs (w .0)) (whole f qs (w .0))
+      go (f ∷ qs) w =
+          all-tested {S = Spoken} {R = Reason value (transitionLine arities states)} 4 (transitionTests arities states f qs) 6 (f of dropLast qs gives lastOf qs) (omega arith)
+          (to f qs (w .0)) (back f qs (w .0)) (whole f qs (w .0))

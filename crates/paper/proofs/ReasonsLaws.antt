@@ -29,8 +29,10 @@ judges-says {S = S} x clear s = record { faults = λ n e. let z : _≡_ {A = ℕ
 -- It refuses by n exactly when n has a reason and no smaller number has one.
 pub judges-exact : {X : Type 0} {S : X → Type 0} {R : ℕ → Type 0} (j : Checked X) → Judges S R j → (n : ℕ) → (j ≡ fault n) ↔ (R n × ((m : ℕ) → m < n → R m → ⊥))
 judges-exact (fault a) d n =
-    let s = d .faults a refl in
-    (λ e. let t = d .faults n e in (t .itself, λ m l r. omega (arith, t .least m r)), λ (r, h). elim (decLe n a) [ yes l ↦ let same : a ≡ n = omega (arith, s .least n r) in ap fault same | no l ↦ absurd (h a (omega arith) (s .itself)) ])
+    let s = d .faults a refl in (
+      λ e. let t = d .faults n e in (t .itself, λ m l r. omega (arith, t .least m r)),
+      λ (r, h). elim (decLe n a) [ yes l ↦ let same : a ≡ n = omega (arith, s .least n r) in ap fault same | no l ↦ absurd (h a (omega arith) (s .itself)) ],
+    )
 judges-exact (says x) d n = (λ e. let z : _≡_ {A = ℕ} 0 1 = cc in absurd (omega arith), λ (r, h). absurd (d .speaks x refl .1 n r))
 
 -- What is said left aside.
@@ -106,7 +108,8 @@ module _ {X : Type 0} {S : X → Type 0} {R : ℕ → Type 0} where
   one-test m false j h r g = judges-fault m (r refl) h
 
   -- THE law: the reasons are the failed tests, and those of what comes after them, in the order of the numbers.
-  pub tested : {T : ℕ → Type 0} (m : ℕ) (ts : List (ℕ × Bool)) (top : ℕ) (j : Checked X) → Rising m ts top → ((n : ℕ) → Failed ts n → R n) → ((n : ℕ) → R n → Failed ts n ⊎ T n) → From top T → (((n : ℕ) → R n → T n) → Judges S R j) → Judges S R (checks ts j)
+  pub tested : {T : ℕ → Type 0} (m : ℕ) (ts : List (ℕ × Bool)) (top : ℕ) (j : Checked X) → Rising m ts top → ((n : ℕ) → Failed ts n → R n)
+      → ((n : ℕ) → R n → Failed ts n ⊎ T n) → From top T → (((n : ℕ) → R n → T n) → Judges S R j) → Judges S R (checks ts j)
   unfolding checks Failed Rising
   tested m [] top j rise to back h k = k (λ n r. elim (back n r) [ inl f ↦ absurd f | inr t ↦ t ])
   tested m (t ∷ ts) top j (l, rise) to back h k = one-test (t .0) (t .1) _ from (λ e. to (t .0) (inl (refl, e))) (λ e.
@@ -120,11 +123,13 @@ module _ {X : Type 0} {S : X → Type 0} {R : ℕ → Type 0} where
       ]
 
   -- The same where something is said behind the tests.
-  pub all-tested : (m : ℕ) (ts : List (ℕ × Bool)) (top : ℕ) (x : X) → Rising m ts top → ((n : ℕ) → Failed ts n → R n) → ((n : ℕ) → R n → Failed ts n) → (((n : ℕ) → R n → ⊥) → S x) → Judges S R (checks ts (says x))
+  pub all-tested : (m : ℕ) (ts : List (ℕ × Bool)) (top : ℕ) (x : X) → Rising m ts top → ((n : ℕ) → Failed ts n → R n) → ((n : ℕ) → R n → Failed ts n)
+      → (((n : ℕ) → R n → ⊥) → S x) → Judges S R (checks ts (says x))
   all-tested m ts top x rise to back s = tested {T = λ n. ⊥} m ts top (says x) rise to (λ n r. inl (back n r)) (λ n t. absurd t) (λ clear. judges-says x clear (s clear))
 
   -- A reading in front: it says what Is, and refuses by the smallest number alone.
-  pub reading : {Z : Type 0} {Is : Z → Type 0} (m : ℕ) (j : Checked Z) (k : Z → Checked X) → ((z : Z) → (j ≡ says z) ↔ Is z) → Only m j → From m R → (((z : Z) → Is z → ⊥) → R m) → ((z : Z) → Is z → Judges S R (k z)) → Judges S R (j >>= k)
+  pub reading : {Z : Type 0} {Is : Z → Type 0} (m : ℕ) (j : Checked Z) (k : Z → Checked X) → ((z : Z) → (j ≡ says z) ↔ Is z) → Only m j → From m R
+      → (((z : Z) → Is z → ⊥) → R m) → ((z : Z) → Is z → Judges S R (k z)) → Judges S R (j >>= k)
   unfolding _>>=_
   reading m (fault a) k i o h r g = let same = o a refl in rw same (judges-fault m (r (λ z w. silent (i z .1 w))) h)
   reading m (says z) k i o h r g = g z (i z .0 refl)

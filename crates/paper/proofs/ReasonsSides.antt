@@ -20,13 +20,13 @@ use Rattle.paper.specs.Sides.{permitted, part, before, terms, single, te
 use Rattle.paper.specs.Spelling.{tokenText, tokensText}
 use Rattle.paper.specs.Reasons.{Tokens, Writes, sideLine, Reason, no-tokens, unlisted-token, large-variable, many-tokens, no-term, bare-left, out-of-turn, lacking}
 use Rattle.paper.proofs.Smallest.{decided}
-use Rattle.paper.proofs.Checked.{silent, Says, said, spoken}
+use Rattle.paper.proofs.Checked.{silent, Says}
 use Rattle.paper.proofs.Exact.{listed-iff}
 use Rattle.paper.proofs.Admitted.{same-lists, each-length}
-use Rattle.paper.proofs.Lines.{joined, entries-sound}
+use Rattle.paper.proofs.Lines.{withCommas, entries-sound}
 use Rattle.paper.proofs.Numbers.{number-exact}
 use Rattle.paper.proofs.Preorder.{preorder-exact}
-use Rattle.paper.proofs.Spelling.{each-spelled, token-spelled, joined-tokens, entries-joined}
+use Rattle.paper.proofs.Spelling.{each-spelled, token-cases, token-spelled, commas-tokens, entries-whole}
 use Rattle.paper.proofs.Complete.{numeral, token-complete, tokens-complete, same-complete}
 use Rattle.paper.proofs.ReasonsLaws.{Judges, From, Only, only-fault, only-says, only-read, only-each, checks, Failed, Rising, tested, all-tested, reading, read-on, test-on}
 use Rattle.paper.proofs.Reasons.{from-four, only-number, each-says, One, or-same, and-fails, all-fails, ltb-fails, leb-fails}
@@ -62,20 +62,16 @@ unfolding termOf
 only-term arities ts = only-read (terms arities ts) _ (only-terms arities ts) only-single
 
 token-short : (e : List ℕ) → Says (λ t. numeral t < 10 ^ mostDigits) (token e)
-unfolding token numeral
-token-short [] t e = absurd (silent e)
-token-short (b ∷ bs) t e = elim (decided (eqb b letterX)) [
-  | inl h ↦ said _ _ (λ n d. number-exact bs n .0 d .1) (λ n d. spoken (λ t. numeral t < 10 ^ mostDigits) (variable n) d) t (rw (h, token) at e)
-  | inr h ↦ said _ _ (λ n d. number-exact (b ∷ bs) n .0 d .1) (λ n d. spoken (λ t. numeral t < 10 ^ mostDigits) (symbol n) d) t (rw (h, token) at e)
-]
+unfolding numeral
+token-short e = token-cases (λ t. numeral t < 10 ^ mostDigits) e (λ bs front n d. number-exact bs n .0 d .1) (λ n d. number-exact e n .0 d .1)
 
 -- A value is read as the tokens that it is.
-tokens-exact : (value : List ℕ) (ts : List Token) → (each token (entries value) ≡ says ts) ↔ (Tokens value ts × (1 ≤ length ts))
+tokens-read : (value : List ℕ) (ts : List Token) → (each token (entries value) ≡ says ts) ↔ (Tokens value ts × (1 ≤ length ts))
 unfolding numeral
-tokens-exact value ts = (
+tokens-read value ts = (
   λ d. (
     record {
-      text = sym (joined-tokens ts) ∙ (ap joined (each-spelled token tokenText token-spelled (entries value) ts d) ∙ entries-joined value);
+      text = sym (commas-tokens ts) ∙ (ap withCommas (each-spelled token tokenText token-spelled (entries value) ts d) ∙ entries-whole value);
       short-symbols = λ f m. each-says token token-short (entries value) ts d (symbol f) m;
       short-variables = λ x m. each-says token token-short (entries value) ts d (variable x) m;
     },
@@ -95,8 +91,8 @@ tokens-exact value ts = (
 -- A value is not two lists of tokens.
 same-tokens : (value : List ℕ) {ts : List Token} → Tokens value ts → 1 ≤ length ts → (us : List Token) → Tokens value us → us ≡ ts
 unfolding tokensText each entries token _>>=_
-same-tokens value {ts} w l [] v = let d = tokens-exact value ts .1 (w, l) in absurd (silent (rw (← v .text) at d))
-same-tokens value {ts} w l (u ∷ us) v = let d = tokens-exact value ts .1 (w, l) in let e = tokens-exact value (u ∷ us) .1 (v, omega arith) in cc
+same-tokens value {ts} w l [] v = let d = tokens-read value ts .1 (w, l) in absurd (silent (rw (← v .text) at d))
+same-tokens value {ts} w l (u ∷ us) v = let d = tokens-read value ts .1 (w, l) in let e = tokens-read value (u ∷ us) .1 (v, omega arith) in cc
 
 bare-fails : (l : Term ℕ) → (not (bare l) ≡ false) ↔ ((x : ℕ) × (l ≡ var x))
 unfolding bare
@@ -191,11 +187,14 @@ module _ (arities value : List ℕ) where
       cc
 
   -- A term, with one more test.
-  term-judges : (left : Option (Term ℕ)) (test : Term ℕ → Bool) → ((t : Term ℕ) → (test t ≡ false) ↔ Last left t) → Judges (Writes value arities) (Reason value (sideLine arities left)) (term arities value >>= (λ t. lastNumber left unless test t >> says t))
+  term-judges : (left : Option (Term ℕ)) (test : Term ℕ → Bool) → ((t : Term ℕ) → (test t ≡ false) ↔ Last left t)
+      → Judges (Writes value arities) (Reason value (sideLine arities left)) (term arities value >>= (λ t. lastNumber left unless test t >> says t))
   unfolding term checks Failed Rising
-  term-judges left test fails = rw read-on (reading 4 _ _ (tokens-exact value) (only-each token only-token (entries value)) from-four (λ h. no-tokens (λ t ts w. h (t ∷ ts) (w, omega arith))) (λ ts (w, l).
+  term-judges left test fails =
+      rw read-on (reading 4 _ _ (tokens-read value) (only-each token only-token (entries value)) from-four (λ h. no-tokens (λ t ts w. h (t ∷ ts) (w, omega arith))) (λ ts (w, l).
       rw test-on (rw test-on (tested {T = Late left} 4 (early ts) 8 _ (omega arith) (early-reason left ts w) (side-reason left ts w l) (late-from left) (λ late.
-      reading 8 (termOf arities ts) _ (preorder-exact arities ts) (only-term arities ts) (λ n r. late-from left n (late n r)) (λ h. no-term w (λ t v. h t (same-tokens value w l (preorder t) (v .tokens), v .ranked))) (λ t (q, k).
+      reading 8 (termOf arities ts) _ (preorder-exact arities ts) (only-term arities ts) (λ n r. late-from left n (late n r))
+      (λ h. no-term w (λ t v. h t (same-tokens value w l (preorder t) (v .tokens), v .ranked))) (λ t (q, k).
       let v : Writes value arities t = record { tokens = rw q w; ranked = k } in
       all-tested 8 ((lastNumber left, test t) ∷ []) (lastNumber left) t (last-late left, omega arith) (to t v ts w) (back t v late) (λ clear. v)))))))
     where
@@ -203,7 +202,8 @@ module _ (arities value : List ℕ) where
       to t v ts w n (inl (e, f)) = late-reason left n w (inr (e, t, v, fails t .0 f))
       to t v ts w n (inr f) = absurd f
 
-      back : (t : Term ℕ) → Writes value arities t → ((n : ℕ) → Reason value (sideLine arities left) n → Late left n) → (n : ℕ) → Reason value (sideLine arities left) n → Failed ((lastNumber left, test t) ∷ []) n
+      back : (t : Term ℕ) → Writes value arities t → ((n : ℕ) → Reason value (sideLine arities left) n → Late left n) → (n : ℕ)
+          → Reason value (sideLine arities left) n → Failed ((lastNumber left, test t) ∷ []) n
       back t v late n r = elim (late n r) [
         | inl (e, h) ↦ absurd (h t v)
         | inr (e, u, w, h) ↦ let same = same-term u t w v in inl (e, fails t .1 (rw same at h))

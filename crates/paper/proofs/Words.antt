@@ -1,4 +1,4 @@
--- The reader's tests of final states and of classes are document 01's words: entries ascend, classes are numbered as they come.
+-- The reader's tests of final states and of classes are the scope's words: entries ascend, classes are numbered as they come.
 use mathlib.Core.Path.{_≡_, refl}
 use mathlib.Core.Logic.{_⊎_, inl, inr, _↔_}
 use mathlib.Core.Bool.{true, and-eq-true-iff}
@@ -29,7 +29,8 @@ ascending-from : (n : ℕ) (qs : List ℕ) → ((0 < length qs) → n ≤ getD q
 unfolding ascending
 ascending-from n [] f w = refl
 ascending-from n (q ∷ qs) f w =
-    and-eq-true-iff (leb n q) (ascending (suc q) qs) .1 (le-leb n q (f (omega arith)), ascending-from (suc q) qs (λ h. w .below 0 (omega arith)) (record { below = λ i h. w .below (suc i) (omega arith) }))
+    and-eq-true-iff (leb n q) (ascending (suc q) qs) .1
+    (le-leb n q (f (omega arith)), ascending-from (suc q) qs (λ h. w .below 0 (omega arith)) (record { below = λ i h. w .below (suc i) (omega arith) }))
 
 -- The test `ascending` passes exactly where each entry is below the next.
 pub ascending-exact : (qs : List ℕ) → (ascending 0 qs ≡ true) ↔ Ascends qs

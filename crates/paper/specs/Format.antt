@@ -104,6 +104,16 @@ pub data File : Type 0 where
   unreadable : (number : ℕ) → (line : Option ℕ) → File
   holds : Certificate → File
 
+-- A line's number; 0 is no line.
+unfoldable pub lineAt : ℕ → Option ℕ
+lineAt zero = none
+lineAt (suc n) = some (suc n)
+
+-- A number for a line; 0 for none.
+unfoldable pub lineNumber : Option ℕ → ℕ
+lineNumber none = 0
+lineNumber (some n) = n
+
 -- How a file is refused: by 2 on no line, or by a number from 3 to 11 on a line, counted from 1, at most one behind the last that there may be.
 pub data Refusal : ℕ → Option ℕ → Type 0 where
   too-long : Refusal 2 none

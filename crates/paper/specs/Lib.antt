@@ -1,3 +1,4 @@
+-- Document 01 as definitions: the file, the certificate in it, what each verdict means, and the answer.
 pub mod Bytes
 pub mod Limits
 pub mod Certificate

@@ -1,4 +1,4 @@
--- The document's limits, each in one place.
+-- The scope's limits, each in one place.
 use Prim.Native.Nat.{ℕ, _+_, _-_}
 
 -- The largest budget, and how many digits a number may have.
@@ -25,7 +25,7 @@ lastState = mostStates - 1
 abbrev pub mostTransitions : ℕ
 mostTransitions = 128
 
--- How many rules there may be, how many tokens on a side, and the last variable, x3.
+-- How many rules there may be, how many tokens on a side, the last variable, x3, and so how many variables.
 abbrev pub mostRules : ℕ
 mostRules = 32
 
@@ -34,6 +34,9 @@ mostTokens = 24
 
 abbrev pub lastVariable : ℕ
 lastVariable = 3
+
+abbrev pub mostVariables : ℕ
+mostVariables = lastVariable + 1
 
 -- How many lines a file may have, how many bytes, and how long an answer buffer must be.
 abbrev pub mostLines : ℕ

@@ -1,4 +1,4 @@
--- The five verdicts and the answers to the two questions they are put together from, and when each is given: document 01's table, in the words of document 002.
+-- The five verdicts and the answers to the two questions they are put together from, and when each is given: the scope's table, in the words of Boichut, Hugot and Boiret.
 use mathlib.Core.Path.{_≡_}
 use mathlib.Core.Logic.{_⊎_}
 use mathlib.Core.List.{List, [], _∷_, List·Memᴰ}

@@ -1,4 +1,4 @@
--- Why a line is refused: document 01's table of refusals from 3 to 11, clause by clause, with no order among them. What follows the last line stands in Layout.
+-- Why a line is refused: the scope's table of refusals from 3 to 11, clause by clause, with no order among them. What follows the last line stands in Layout.
 use mathlib.Core.Path.{_≡_}
 use mathlib.Core.Logic.{_⊎_}
 use mathlib.Core.List.{List, [], _∷_, _++_, List·Memᴰ}

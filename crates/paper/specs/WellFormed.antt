@@ -1,4 +1,4 @@
--- What the format admits: the conditions that document 01 states of a certificate's parts; and when two mergings are the same.
+-- What the format admits: the conditions that the scope states of a certificate's parts; and when two mergings are the same.
 use mathlib.Core.Path.{_≡_}
 use mathlib.Core.List.{List, List·Memᴰ}
 use mathlib.Core.Logic.{_↔_}
@@ -8,7 +8,7 @@ use Rattle.theory.specs.Term.{Term, variables, symbols}
 use Rattle.theory.specs.Rewriting.{Rule, WellShaped, variableCount}
 use Rattle.theory.specs.Preorder.{preorder, Ranked}
 use Rattle.theory.specs.Automaton.{Automaton, Transition}
-use Rattle.paper.specs.Limits.{mostBudget, mostSymbols, mostArity, mostStates, lastState, mostTransitions, mostRules, mostTokens, lastVariable}
+use Rattle.paper.specs.Limits.{mostBudget, mostSymbols, mostArity, mostStates, lastState, mostTransitions, mostRules, mostTokens, lastVariable, mostVariables}
 use Rattle.paper.specs.Certificate.{Certificate}
 
 -- Entries ascend strictly: each is below the next.
@@ -48,7 +48,7 @@ pub record GoodRule (arities : List ℕ) (rule : Rule) : Type 0 where
   pub shaped : WellShaped rule
   pub left : GoodTerm arities (rule .left)
   pub right : GoodTerm arities (rule .right)
-  pub few : variableCount rule ≤ suc lastVariable
+  pub few : variableCount rule ≤ mostVariables
 
 -- A certificate that a file can hold.
 pub record WellFormed (c : Certificate) : Type 0 where

@@ -1,1 +1,1 @@
-// No code: document 01 as definitions, and its demands as theorems.
+// No code: the scope as definitions, and its demands as theorems.

@@ -27,7 +27,8 @@ placed-short text was h = record { counts = counted 0 was (omega arith); short =
 pub placed-written : (text other was : List ℕ) (n : ℕ) (is : List ℕ) → other ≡ text → leastBuffer ≤ length was → Wrote other was n is → Placed text was n is
 placed-written text other was n is e h v =
     let w : Wrote text was n is = rw e at v in
-    let long : length is ≡ length text + (length was - length text) = ap length (w .buffer) ∙ (length-append text (drop (length text) was) ∙ ap (λ k. length text + k) (length-drop (length text) was)) in
+    let parts = length-append text (drop (length text) was) ∙ ap (λ k. length text + k) (length-drop (length text) was) in
+    let long : length is ≡ length text + (length was - length text) = ap length (w .buffer) ∙ parts in
     record { counts = counted n is (omega (arith, w .count)); short = λ l. absurd (omega arith); room = λ l. w }
 
 -- What the public operation returns and leaves.

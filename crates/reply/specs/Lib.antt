@@ -1,1 +1,2 @@
+-- What a program finds in its buffer.
 pub mod Placed

@@ -11,7 +11,7 @@ use Rattle.tables.specs.Held.{rulesOf}
 use Rattle.tables.specs.declared.Rules.{Rules}
 use Rattle.values.specs.Lanes.{lane}
 use Rattle.lanes.specs.Prefixes.{choices}
-use Rattle.lanes.specs.Automaton.{automatonOf}
+use Rattle.lanes.specs.Automaton.{wovenAutomaton}
 use Rattle.search.specs.Searched.{Searchable, Opened}
 use Rattle.search.proofs.Order.{ruleIn}
 use Rattle.search.proofs.Walk.{Clear, Level}
@@ -35,21 +35,21 @@ module _ (arities words heads : List ℕ) (rules : Rules) (k : ℕ) where
     pub upto : rule ≤ rules .count
     pub place : examined ≡ total k (take rule (rulesOf arities rules))
     pub within : examined ≤ budget
-    pub clear : Clear (automatonOf arities words heads k) (rulesOf arities rules) examined
+    pub clear : Clear (wovenAutomaton arities words heads k) (rulesOf arities rules) examined
     pub rows : Roomed k m₀ m
 
   module _ (budget most size r : ℕ) (tokens : List ℕ) (v lanes passed1 passed0 m0 m1 m2 variables right leads1 : ℕ) where
     -- At a choice of the variable after the prefix xs, of which the classes in `mask` are gone into.
     pub record AtChoice (i : ℕ) (xs : List ℕ) (mask : ℕ) (m₀ m : List (List ℕ)) (start y n : ℕ) : Type 0 where
       pub ruled : Ruled arities words heads rules k budget most size r tokens v lanes passed1 passed0 m0 m1 m2 variables right leads1
-      pub level : Level (automatonOf arities words heads k) (rulesOf arities rules) v i r (ruleIn (rulesOf arities rules) r) xs budget start y n
-      pub opened : Opened (automatonOf arities words heads k) (ruleIn (rulesOf arities rules) r) v xs mask
+      pub level : Level (wovenAutomaton arities words heads k) (rulesOf arities rules) v i r (ruleIn (rulesOf arities rules) r) xs budget start y n
+      pub opened : Opened (wovenAutomaton arities words heads k) (ruleIn (rulesOf arities rules) r) v xs mask
       pub rows : Roomed k m₀ m
 
     -- At a choice of the third variable.
     pub record AtThird (x0 x1 : ℕ) (m₀ m : List (List ℕ)) (start x2 n : ℕ) : Type 0 where
       pub ruled : Ruled arities words heads rules k budget most size r tokens v lanes passed1 passed0 m0 m1 m2 variables right leads1
-      pub level : Level (automatonOf arities words heads k) (rulesOf arities rules) v 2 r (ruleIn (rulesOf arities rules) r) (x0 ∷ (x1 ∷ [])) budget start x2 n
+      pub level : Level (wovenAutomaton arities words heads k) (rulesOf arities rules) v 2 r (ruleIn (rulesOf arities rules) r) (x0 ∷ (x1 ∷ [])) budget start x2 n
       pub low0 : x0 < k
       pub low1 : x1 < k
       pub rows : Roomed k m₀ m

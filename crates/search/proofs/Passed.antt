@@ -1,4 +1,4 @@
--- A class that is not gone into is passed over: what is clear before it stays clear through its block.
+-- A class that is not gone into is passed over: what is clear before it stays clear through its substitutions.
 use mathlib.Core.Path.{_≡_, refl, sym, ap, _∙_, subst}
 use mathlib.Core.Bool.{false}
 use mathlib.Core.Logic.{inl, inr}
@@ -19,7 +19,7 @@ use Rattle.sets.specs.Sets.{mem}
 use Rattle.alike.specs.Alike.{SameSides}
 use Rattle.alike.proofs.First.{still-critical}
 use Rattle.lanes.specs.Prefixes.{rest, choices}
-use Rattle.lanes.specs.Blocks.{Calm as CalmFrom}
+use Rattle.lanes.specs.Batches.{Calm as CalmFrom}
 use Rattle.search.specs.Searched.{Opened}
 use Rattle.search.proofs.Order.{place-listed}
 use Rattle.search.proofs.Walk.{caseAt, Calm, Level, level-prefix, level-run, calm-from}

@@ -20,14 +20,14 @@ use Rattle.sets.specs.Sets.{less}
 use Rattle.tables.specs.Held.{tokenOf, sideAt, ruleAt, rulesOf}
 use Rattle.tables.specs.declared.Rules.{Rules}
 use Rattle.woven.specs.Woven.{part, moveOf, wovenMoves}
-use Rattle.values.specs.Lanes.{lane, blockOf}
+use Rattle.values.specs.Lanes.{lane, sheetOf}
 use Rattle.values.specs.Standing.{Each, EachRow, one, over, empty, _beside_, Spells, Stands, Ready}
 use Rattle.values.proofs.Spanned.{each-then}
-use Rattle.values.proofs.Standing.{variable-here, block-room}
+use Rattle.values.proofs.Standing.{variable-here, sheet-room}
 use Rattle.alike.specs.Needed.{RuleGiven, Led}
 use Rattle.lanes.specs.Prefixes.{rest, choices, chosen}
-use Rattle.lanes.specs.Blocks.{Judgeable}
-use Rattle.lanes.specs.Automaton.{automatonOf}
+use Rattle.lanes.specs.Batches.{Judgeable}
+use Rattle.lanes.specs.Automaton.{wovenAutomaton}
 use Rattle.search.specs.Searched.{Searchable, Told}
 use Rattle.search.proofs.Order.{place-listed, noRule, ruleIn}
 use Rattle.search.proofs.Walk.{Clear, Run}
@@ -100,7 +100,7 @@ module _ {arities words heads : List ℕ} {rules : Rules} {k : ℕ} (ok : Search
 
   -- The tables are ready for valuing.
   pub tables-ready : Ready arities words heads k
-  unfolding automatonOf wovenMoves moveOf
+  unfolding wovenAutomaton wovenMoves moveOf
   tables-ready = record {
     indexed = ok .indexed;
     target = λ i h. ok .in-range .targets (moveOf arities (getD words i 0)) (word-listed i h);
@@ -226,9 +226,9 @@ module _ {arities words heads : List ℕ} {rules : Rules} {k : ℕ} (ok : Search
             variable = low;
           }
 
-      -- The right side's block is one of all 52.
-      pub rule-right : blockOf tokens 24 < 52
-      rule-right = block-room arities tokens 24 right-standing
+      -- The right side's sheet is one of all 52.
+      pub rule-right : sheetOf tokens 24 < 52
+      rule-right = sheet-room arities tokens 24 right-standing
 
 module _ (arities words heads : List ℕ) (rules : Rules) (k : ℕ) where
   -- The numbers of a rule.
@@ -242,7 +242,7 @@ module _ (arities words heads : List ℕ) (rules : Rules) (k : ℕ) where
     pub is-tokens : tokens ≡ own (rules .tokens) (r * 48)
     pub is-v : v ≡ variableCount (ruleIn (rulesOf arities rules) r)
     pub is-variables : variables ≡ v
-    pub is-right : right ≡ blockOf tokens 24 * k
+    pub is-right : right ≡ sheetOf tokens 24 * k
     pub few : v ≤ 4
     pub lanes-are : lanes ≡ k ^ rest v 3
     pub passed1-is : passed1 ≡ k ^ rest v 2
@@ -250,17 +250,17 @@ module _ (arities words heads : List ℕ) (rules : Rules) (k : ℕ) where
     pub m0-is : m0 ≡ choices k v 0
     pub m1-is : m1 ≡ choices k v 1
     pub m2-is : m2 ≡ choices k v 2
-    pub led : Led (automatonOf arities words heads k) (ruleIn (rulesOf arities rules) r) 1 leads1
+    pub led : Led (wovenAutomaton arities words heads k) (ruleIn (rulesOf arities rules) r) 1 leads1
 
-  -- A block whose lanes are looked at one by one: j of them are passed since `start`, and n substitutions are examined.
+  -- A batch whose lanes are looked at one by one: j of them are passed since `start`, and n substitutions are examined.
   pub record Lanes (budget r v x0 x1 x2 right : ℕ) (m : List (List ℕ)) (start j n : ℕ) : Type 0 where
-    pub run : Run (automatonOf arities words heads k) (rulesOf arities rules) r (ruleIn (rulesOf arities rules) r) (take (v - rest v 3) (x0 ∷ (x1 ∷ (x2 ∷ [])))) (rest v 3) start
+    pub run : Run (wovenAutomaton arities words heads k) (rulesOf arities rules) r (ruleIn (rulesOf arities rules) r) (take (v - rest v 3) (x0 ∷ (x1 ∷ (x2 ∷ [])))) (rest v 3) start
     pub each : (j : ℕ) → j < k ^ rest v 3 → (q : ℕ)
-        → less (lane k m 0 j) (lane k m right j) q ≡ isCritical (automatonOf arities words heads k) (ruleIn (rulesOf arities rules) r) (chosen v x0 x1 x2 j) q
+        → less (lane k m 0 j) (lane k m right j) q ≡ isCritical (wovenAutomaton arities words heads k) (ruleIn (rulesOf arities rules) r) (chosen v x0 x1 x2 j) q
     pub low0 : x0 < k
     pub low1 : x1 < k
     pub low2 : x2 < k
     pub upto : j ≤ k ^ rest v 3
     pub place : n ≡ start + j
     pub within : n ≤ budget
-    pub clear : Clear (automatonOf arities words heads k) (rulesOf arities rules) n
+    pub clear : Clear (wovenAutomaton arities words heads k) (rulesOf arities rules) n

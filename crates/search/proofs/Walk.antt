@@ -1,4 +1,4 @@
--- The walk through the substitutions: what is clear, which block comes next, and what each way out says.
+-- The walk through the substitutions: what is clear, which batch comes next, and what each way out says.
 use mathlib.Core.Path.{_≡_, refl, sym, ap, _∙_, subst}
 use mathlib.Core.Bool.{true, false, true≢false}
 use mathlib.Core.List.{List, [], _∷_, _++_, List·Memᴰ, append-assoc}
@@ -173,7 +173,7 @@ module _ (M : Automaton) (R : List Rule) where
       least = λ x k. elim (decLt x q) [ yes h ↦ absurd (true≢false (sym (critical-iff M R (case r rule σ) x .1 k) ∙ none x h)) | no nh ↦ omega arith ];
     }
 
-  -- A lane of the block that comes next.
+  -- A lane of the batch that comes next.
   pub lane-at : (v r : ℕ) (rule : Rule) (x0 x1 x2 n : ℕ) → v ≤ 4 → Run r rule (take (v - rest v 3) (x0 ∷ (x1 ∷ (x2 ∷ [])))) (rest v 3) n → (j : ℕ) → j < M .states ^ rest v 3
       → caseAt (n + j) ≡ case r rule (chosen v x0 x1 x2 j)
   unfolding rest chosen substitutions

@@ -8,6 +8,7 @@ use lib.ListN.{length, getD}
 use Rattle.theory.specs.Term.{var}
 use Rattle.theory.specs.Rewriting.{Rule, WellShapedRules}
 use Rattle.theory.specs.Automaton.{Automaton, Transition, InRange}
+use Rattle.paper.specs.Limits.{mostArity, mostRules}
 use Rattle.paper.specs.Meaning.{Closure}
 use Rattle.paper.specs.Computed.{closure}
 use Rattle.tables.specs.Held.{rulesOf}
@@ -17,19 +18,19 @@ use Rattle.woven.specs.Woven.{wovenMoves, Indexed}
 use Rattle.sets.specs.Sets.{mem}
 use Rattle.values.specs.Standing.{Each, Spelled}
 use Rattle.alike.specs.Needed.{Before}
-use Rattle.lanes.specs.Automaton.{automatonOf}
-use Rattle.lanes.specs.Blocks.{Calm}
+use Rattle.lanes.specs.Automaton.{wovenAutomaton}
+use Rattle.lanes.specs.Batches.{Calm}
 
 -- What the search relies on.
 pub record Searchable (arities words heads : List ℕ) (rules : Rules) (k : ℕ) : Type 0 where
   pub indexed : Indexed words heads
-  pub in-range : InRange (automatonOf arities words heads k)
+  pub in-range : InRange (wovenAutomaton arities words heads k)
   pub arguments : (tr : Transition) → List·Memᴰ tr (wovenMoves arities words (getD heads 64 0)) → (c : ℕ) → List·Memᴰ c (tr .arguments) → c < k
-  pub ranks : (f : ℕ) → getD arities f 0 ≤ 3
+  pub ranks : (f : ℕ) → getD arities f 0 ≤ mostArity
   pub sound : (i : ℕ) → i < rules .count → SoundRule arities rules i
   pub shaped : WellShapedRules (rulesOf arities rules)
   pub few : (i : ℕ) → getD (rules .variables) i 0 ≤ 4
-  pub most-rules : rules .count ≤ 32
+  pub most-rules : rules .count ≤ mostRules
   pub some-class : 1 ≤ k
   pub most-classes : k ≤ 64
 
@@ -47,4 +48,4 @@ pub record Opened (M : Automaton) (rule : Rule) (v : ℕ) (xs : List ℕ) (mask 
 
 -- The answer to the second question, of the automaton that the words are.
 abbrev pub searched : (arities words heads : List ℕ) → Rules → (k budget : ℕ) → Closure
-searched arities words heads rules k budget = closure (automatonOf arities words heads k) (rulesOf arities rules) budget
+searched arities words heads rules k budget = closure (wovenAutomaton arities words heads k) (rulesOf arities rules) budget

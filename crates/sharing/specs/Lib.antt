@@ -1,1 +1,2 @@
+-- The definitions that the contracts of `sharing` cite.
 pub mod Share

@@ -8,6 +8,7 @@ use lib.Dec.{eqb, leb}
 use lib.ListN.{length, getD}
 use Rattle.theory.specs.Automaton.{Automaton}
 use Rattle.theory.specs.Critical.{Share}
+use Rattle.paper.specs.Limits.{mostArity}
 use Rattle.sets.specs.Sets.{mem}
 use Rattle.tables.specs.Held.{movesOf}
 
@@ -40,8 +41,8 @@ abbrev pub ClosedAt : (merged bad ar pairs : List ℕ) → ℕ → ℕ → Type 
 ClosedAt merged bad ar pairs j m = joins merged bad ar (rel pairs) j m ≡ true → rel pairs (arg merged j 4) (arg bad m 4) ≡ true
 
 -- Every marked pair shares a tree.
-abbrev pub Sound : (merged bad ar pairs : List ℕ) → Type 0
-Sound merged bad ar pairs = (c b : ℕ) → rel pairs c b ≡ true → Share (flat ar merged) (flat ar bad) c b
+abbrev pub OnlyShared : (merged bad ar pairs : List ℕ) → Type 0
+OnlyShared merged bad ar pairs = (c b : ℕ) → rel pairs c b ≡ true → Share (flat ar merged) (flat ar bad) c b
 
 -- Each mask is a word of 64 bits.
 abbrev pub Words : List ℕ → Type 0
@@ -57,7 +58,7 @@ sum (x ∷ xs) = x + sum xs
 pub record Grown (merged bad ar pairs pairs′ : List ℕ) (got : ℕ) (closed : Type 0) : Type 0 where
   pub long : length pairs′ ≡ length pairs
   pub words : Words pairs → Words pairs′
-  pub sound : Sound merged bad ar pairs → Sound merged bad ar pairs′
+  pub only-shared : OnlyShared merged bad ar pairs → OnlyShared merged bad ar pairs′
   pub grew : (c b : ℕ) → rel pairs c b ≡ true → rel pairs′ c b ≡ true
   pub others : (c : ℕ) → mem got c ≡ false → getD pairs′ c 0 ≡ getD pairs c 0
   pub up : sum pairs ≤ sum pairs′
@@ -93,10 +94,25 @@ AllRest merged bad ar pairs set = (j : ℕ) → j < length merged / 5 → Rests 
 
 -- Exactly the pairs that share a tree are marked.
 abbrev pub Exact : (merged bad ar pairs : List ℕ) → Type 0
-Exact merged bad ar pairs = (c b : ℕ) → (rel pairs c b ≡ true → Share (flat ar merged) (flat ar bad) c b) × (Share (flat ar merged) (flat ar bad) c b → rel pairs c b ≡ true)
+Exact merged bad ar pairs =
+    (c b : ℕ) → (rel pairs c b ≡ true → Share (flat ar merged) (flat ar bad) c b) × (Share (flat ar merged) (flat ar bad) c b → rel pairs c b ≡ true)
 
 -- The numbers in the tables that the code relies on.
-pub record Tables (merged bad ar : List ℕ) : Type 0 where
+pub record Shareable (merged bad ar : List ℕ) : Type 0 where
   pub small : Small merged
   pub bad-small : Small bad
-  pub rank : (f : ℕ) → getD ar f 0 ≤ 3
+  pub rank : (f : ℕ) → getD ar f 0 ≤ mostArity
+
+-- What comparing byte i of the one table and byte l of the other relies on: they are there, there is a mask for each class, and the bytes are places of masks.
+pub record TwoBytes (pairs merged : List ℕ) (i : ℕ) (bad : List ℕ) (l : ℕ) : Type 0 where
+  pub here : i < length merged
+  pub there : l < length bad
+  pub masks : length pairs ≡ 64
+  pub small : Small merged
+  pub bad-small : Small bad
+
+-- Row j of the one table and row m of the other are there, and there is a mask for each class.
+pub record TwoRows (pairs merged : List ℕ) (j : ℕ) (bad : List ℕ) (m : ℕ) : Type 0 where
+  pub here : j < length merged / 5
+  pub there : m < length bad / 5
+  pub masks : length pairs ≡ 64

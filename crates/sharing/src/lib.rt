@@ -1,36 +1,29 @@
 // Which classes and which states of the bad automaton share a tree: a mask for each class, filled until nothing is added.
+use sets::ALL;
+use sets::WIDTH;
 use sets::has;
+use sets::number;
 use sets::only;
 use sets::with;
+use tables::ROW;
+use tables::arity;
 ghost use mathlib.Core.Path.{_≡_};
 ghost use mathlib.Core.Bool.{_||_, false};
 ghost use Prim.Native.Nat.{_+_, _*_, _/_, _<_};
 ghost use lib.Dec.{leb};
 ghost use lib.ListN.{length, getD};
 ghost use Rattle.sets.specs.Sets.{mem};
-ghost use Rattle.sharing.specs.Share.{Small, rel, joins, ClosedAt, SweptTo, Grown, Still, Rests, AllRest, Exact, Tables};
+ghost use Rattle.sharing.specs.Share.{Small, rel, joins, ClosedAt, Grown, Still, Rests, AllRest, Exact, Shareable, TwoBytes, TwoRows};
 
-// A byte as a wide number.
-fn wide(x: u8) -> u64
-    ensures { λ r. ⌜ r ≡ x ⌝ }
-{
-    x as u64
-}
+// The byte of a row that has its target.
+const TARGET: usize = 4;
 
 // Whether the class in byte i of the table is in the set.
 fn arg_in(merged: &[u8], i: usize, set: u64) -> bool
     requires { ⌜ (i < length (now merged)) × Small (now merged) ⌝ }
     ensures { λ r. ⌜ r ≡ mem set (getD (now (merged .entry)) i 0) ⌝ }
 {
-    has(set, wide(merged[i]))
-}
-
-// The number of subterms of the symbol f.
-fn arity(ar: &[u8], f: u8) -> u8
-    ensures { λ r. ⌜ r ≡ getD (now (ar .entry)) f 0 ⌝ }
-{
-    let i = f as usize;
-    if i < ar.len() { ar[i] } else { 0 }
+    has(set, number(merged[i]))
 }
 
 // Whether the p-th arguments of two rows, in byte i of the one table and byte l of the other, are related, where a symbol has n of them.
@@ -43,7 +36,7 @@ fn arg_joins<'a>(
     n: u8,
     p: u8,
 ) -> bool
-    requires { ⌜ (i < length (now merged)) × (l < length (now bad)) × (length (now pairs) ≡ 64) × Small (now merged) × Small (now bad) ⌝ }
+    requires { ⌜ TwoBytes (now pairs) (now merged) i (now bad) l ⌝ }
     ensures { λ r. ⌜ r ≡ (leb n p || rel (now (pairs .entry)) (getD (now (merged .entry)) i 0) (getD (now (bad .entry)) l 0)) ⌝ }
 {
     if n <= p {
@@ -62,11 +55,11 @@ fn rows_join<'a>(
     j: usize,
     m: usize,
 ) -> bool
-    requires { ⌜ (j < length (now merged) / 5) × (m < length (now bad) / 5) × (length (now pairs) ≡ 64) × Small (now merged) × Small (now bad) ⌝ }
+    requires { ⌜ TwoRows (now pairs) (now merged) j (now bad) m × Small (now merged) × Small (now bad) ⌝ }
     ensures { λ r. ⌜ r ≡ joins (now (merged .entry)) (now (bad .entry)) (now (ar .entry)) (rel (now (pairs .entry))) j m ⌝ }
 {
-    let i = j * 5;
-    let l = m * 5;
+    let i = j * ROW;
+    let l = m * ROW;
     let f = merged[i];
     if f == bad[l] {
         let n = arity(ar, f);
@@ -93,13 +86,13 @@ fn visit<'a>(
     j: usize,
     m: usize,
 ) -> u64
-    requires { ⌜ (j < length (now merged) / 5) × (m < length (now bad) / 5) × (length (now pairs) ≡ 64) × Tables (now merged) (now bad) (now ar) ⌝ }
+    requires { ⌜ TwoRows (now pairs) (now merged) j (now bad) m × Shareable (now merged) (now bad) (now ar) ⌝ }
     ensures { λ r. ⌜ Grown (now (merged .entry)) (now (bad .entry)) (now (ar .entry)) (now (pairs .entry)) (now (pairs .exit)) r
         (ClosedAt (now (merged .entry)) (now (bad .entry)) (now (ar .entry)) (now (pairs .exit)) j m) ⌝ }
 {
     if rows_join(pairs, merged, bad, ar, j, m) {
-        let c = merged[j * 5 + 4] as usize;
-        let b = wide(bad[m * 5 + 4]);
+        let c = merged[j * ROW + TARGET] as usize;
+        let b = number(bad[m * ROW + TARGET]);
         let old = pairs[c];
         if has(old, b) {
             return 0;
@@ -112,11 +105,11 @@ fn visit<'a>(
 
 // Row j of the one table with every row of the other. The class that got more, as a set.
 fn sweep<'a>(pairs: &mut [u64], merged: &'a [u8], bad: &'a [u8], ar: &'a [u8], j: usize) -> u64
-    requires { ⌜ (j < length (now merged) / 5) × (length (now pairs) ≡ 64) × Tables (now merged) (now bad) (now ar) ⌝ }
+    requires { ⌜ (j < length (now merged) / 5) × (length (now pairs) ≡ 64) × Shareable (now merged) (now bad) (now ar) ⌝ }
     ensures { λ r. ⌜ Grown (now (merged .entry)) (now (bad .entry)) (now (ar .entry)) (now (pairs .entry)) (now (pairs .exit)) r
         (Rests (now (merged .entry)) (now (bad .entry)) (now (ar .entry)) (now (pairs .exit)) r j) ⌝ }
 {
-    let n = bad.len() / 5;
+    let n = bad.len() / ROW;
     let mut got: u64 = 0;
     let mut m: usize = 0;
     while m < n {
@@ -138,9 +131,6 @@ fn touched(merged: &[u8], i: usize, set: u64, n: u8, p: u8) -> bool
     arg_in(merged, i, set)
 }
 
-// Every class: before the first pass, when all rows are new.
-const ALL: u64 = 18446744073709551615;
-
 // Whether row j may add something after the masks of the classes in the set grew.
 fn due<'a>(merged: &'a [u8], ar: &'a [u8], j: usize, set: u64) -> bool
     requires { ⌜ (j < length (now merged) / 5) × Small (now merged) ⌝ }
@@ -149,7 +139,7 @@ fn due<'a>(merged: &'a [u8], ar: &'a [u8], j: usize, set: u64) -> bool
     if set == ALL {
         return true;
     }
-    let i = j * 5;
+    let i = j * ROW;
     let n = arity(ar, merged[i]);
     if touched(merged, i + 1, set, n, 0) {
         return true;
@@ -169,7 +159,7 @@ fn turn<'a>(
     j: usize,
     set: u64,
 ) -> u64
-    requires { ⌜ (j < length (now merged) / 5) × (length (now pairs) ≡ 64) × Tables (now merged) (now bad) (now ar) ⌝ }
+    requires { ⌜ (j < length (now merged) / 5) × (length (now pairs) ≡ 64) × Shareable (now merged) (now bad) (now ar) ⌝ }
     requires { ⌜ Rests (now merged) (now bad) (now ar) (now pairs) set j ⌝ }
     ensures { λ r. ⌜ Grown (now (merged .entry)) (now (bad .entry)) (now (ar .entry)) (now (pairs .entry)) (now (pairs .exit)) r
         (Rests (now (merged .entry)) (now (bad .entry)) (now (ar .entry)) (now (pairs .exit)) r j) ⌝ }
@@ -182,11 +172,11 @@ fn turn<'a>(
 
 // Every row of the one table that may add something after the masks of the classes in `dirty` grew. The classes that got more.
 fn pass<'a>(pairs: &mut [u64], merged: &'a [u8], bad: &'a [u8], ar: &'a [u8], dirty: u64) -> u64
-    requires { ⌜ (length (now pairs) ≡ 64) × Tables (now merged) (now bad) (now ar) × AllRest (now merged) (now bad) (now ar) (now pairs) dirty ⌝ }
+    requires { ⌜ (length (now pairs) ≡ 64) × Shareable (now merged) (now bad) (now ar) × AllRest (now merged) (now bad) (now ar) (now pairs) dirty ⌝ }
     ensures { λ r. ⌜ Grown (now (merged .entry)) (now (bad .entry)) (now (ar .entry)) (now (pairs .entry)) (now (pairs .exit)) r
         (AllRest (now (merged .entry)) (now (bad .entry)) (now (ar .entry)) (now (pairs .exit)) r) ⌝ }
 {
-    let n = merged.len() / 5;
+    let n = merged.len() / ROW;
     let mut live = dirty;
     let mut got: u64 = 0;
     let mut j: usize = 0;
@@ -199,16 +189,18 @@ fn pass<'a>(pairs: &mut [u64], merged: &'a [u8], bad: &'a [u8], ar: &'a [u8], di
     got
 }
 
+// The marked pairs: for each class a mask of states of the bad automaton.
 pub struct Marked {
-    pub pairs: [u64; 64],
+    pub pairs: [u64; WIDTH],
 }
 
 // For each class the states of the bad automaton that it shares a tree with.
 pub fn share<'a>(merged: &'a [u8], bad: &'a [u8], ar: &'a [u8]) -> Marked
-    requires { ⌜ Tables (now merged) (now bad) (now ar) ⌝ }
+    requires { ⌜ Shareable (now merged) (now bad) (now ar) ⌝ }
     ensures { λ r. ⌜ Exact (now (merged .entry)) (now (bad .entry)) (now (ar .entry)) (r .pairs) ⌝ }
 {
-    let mut pairs = [0u64; 64];
+    let mut pairs = [0u64; WIDTH];
+    // All rows are new before the first pass.
     let mut dirty = ALL;
     while dirty != 0 {
         dirty = pass(&mut pairs, merged, bad, ar, dirty);

@@ -1,221 +1,53 @@
--- The passes over a term's codes say what paper says of its tokens.
+-- What the passes find of a side's bytes is what paper says of its tokens: one term or not, its variables, its first token.
 use mathlib.Core.Path.{_≡_, refl, sym, ap, _∙_}
-use mathlib.Core.Bool.{Bool, true, false, _&&_, and-eq-true-iff, false≢true}
-use mathlib.Core.Logic.{_⊎_, inl, inr}
-use mathlib.Core.List.{List, [], _∷_, _++_}
+use mathlib.Core.Bool.{Bool, true, false, not, and-eq-true-iff, false≢true}
+use mathlib.Core.Logic.{inl, inr}
+use mathlib.Core.List.{List, [], _∷_, _++_, map}
 use Prim.Native.Nat.{ℕ, zero, suc, _+_, _-_, _≤_, _<_}
 use native.Mathlib.Omega.{arith}
-use borrow.Author.Tests.{eqb-true, eqb-false, le-leb, lt-leb, leb-true, leb-false, lt-ltb, le-ltb, ltb-true, ltb-false}
-use lib.Dec.{eqb, leb, ltb}
+use borrow.Author.Tests.{eqb-true, eqb-false, eq-eqb, ne-eqb, le-leb, lt-leb, leb-true, leb-false, lt-ltb, le-ltb, ltb-true}
+use lib.Dec.{eqb, leb}
 use lib.ListN.{length, take, getD}
 use lib.Seq.{getD-take}
 use Rattle.theory.specs.Lists.{countFrom, any}
 use Rattle.theory.specs.Term.{Term, Terms, var, node, none, _then_, variables, variablesAll}
 use Rattle.theory.specs.Preorder.{Token, symbol, variable, preorder, preorderAll}
-use Rattle.paper.specs.Checked.{Checked, fault, says, _>>=_, _>>_, _unless_}
-use Rattle.paper.specs.Fields.{all, each, entries, token}
-use Rattle.paper.specs.Sides.{permitted, Parts, part, before, terms, single, termOf, term, same, bare}
+use Rattle.paper.specs.Checked.{Checked, fault, says, _>>=_}
+use Rattle.paper.specs.Fields.{all}
+use Rattle.paper.specs.Sides.{permitted, Parts, part, before, terms, single, termOf, same, bare}
 use Rattle.paper.proofs.Smallest.{decided}
-use Rattle.paper.proofs.Checked.{silent, parts}
+use Rattle.paper.proofs.Admitted.{same-lists}
+use Rattle.paper.proofs.Exact.{listed-iff}
+use Rattle.paper.proofs.Tokens.{tokens-exact}
+use Rattle.theory.proofs.Count.{mem-order, order-mem}
+use Rattle.tables.specs.Held.{tokenOf, byteOf, sideOf}
 use Rattle.sides.specs.declared.Lined.{Lined}
 use Rattle.sides.specs.declared.Lined.the-variants.{Count, Broken}
-use Rattle.fields.specs.Value.{code, codeOf}
-use Rattle.fields.specs.Lines.{fewCheck}
-use Rattle.sides.specs.Tokens.{codes, tokenOf, tokensOf, closes, openTerms, isOne, stepLined, lined, strange, noStrange}
-use Rattle.fields.proofs.LinesLaws.{few-ok, few-not}
-use Rattle.fields.proofs.Digits.{readOn, read-token}
-use Rattle.fields.proofs.Bridge.{values, valuesOf, inRange, ranged, checking}
-use Rattle.fields.proofs.Judges.{bind-same, bind-bind, none-beyond, check-passes, check-fails}
-use Rattle.paper.proofs.Admitted.{same-lists}
+use Rattle.sides.specs.Tokens.{closes, openTerms, isOne, stepLined, lined, strange, noStrange}
 
-pub codes-length : (ts : List Token) → length (codes ts) ≡ length ts
-unfolding codes
-codes-length [] = refl
-codes-length (t ∷ ts) = ap suc (codes-length ts)
-
-one-more : (j : Checked Token) (k : Checked (List Token)) → ((j >>= (λ t. says (codeOf t))) >>= (λ w. (k >>= (λ ts. says (codes ts))) >>= (λ ws. says (w ∷ ws)))) ≡ ((j >>= (λ t. k >>= (λ ts. says (t ∷ ts)))) >>= (λ ts. says (codes ts)))
-unfolding _>>=_ codes
-one-more (fault n) k = refl
-one-more (says t) (fault n) = refl
-one-more (says t) (says ts) = refl
-
-each-token : (es : List (List ℕ)) → each (readOn 1 0 0) es ≡ (each token es >>= (λ ts. says (codes ts)))
-unfolding each
-each-token [] = unfold _>>=_ codes in refl
-each-token (e ∷ es) = rw (read-token e, each-token es) (one-more (token e) (each token es))
-
--- 5: a symbol not listed, or a variable above 3.
-known-code : (ar : List ℕ) (t : Token) → length ar ≤ 64 → leb (codeOf t) (length ar + 3) ≡ permitted ar t
-unfolding codeOf code permitted
-known-code ar (symbol f) h = elim (decided (ltb f (length ar))) [
-  | inl p ↦ rw (p, le-leb (f + 4) (length ar + 3) (omega (arith, ltb-true f (length ar) p)))
-  | inr p ↦ rw (p, lt-leb (f + 4) (length ar + 3) (omega (arith, ltb-false f (length ar) p)))
-]
-known-code ar (variable x) h = elim (decided (leb x 3)) [
-  | inl p ↦ rw (p, code) (rw (le-leb x (length ar + 3) (omega (arith, leb-true x 3 p))))
-  | inr p ↦ rw (p, code) (rw (lt-leb (x + 100000000) (length ar + 3) (omega arith)))
-]
-
-all-known : (ar : List ℕ) → length ar ≤ 64 → (ts : List Token) → all (codes ts) (λ c. leb c (length ar + 3)) ≡ all ts (permitted ar)
-unfolding all codes
-all-known ar h [] = refl
-all-known ar h (t ∷ ts) = rw (known-code ar t h, all-known ar h ts)
-
--- A line's tokens, with the refusals 4, 5 and 6.
-unfoldable pub tokensIn : List ℕ → List ℕ → Checked (List Token)
-tokensIn ar value = each token (entries value) >>= (λ ts. 5 unless all ts (permitted ar) >> (6 unless leb (length ts) 24 >> says ts))
-
-token-test : (ar : List ℕ) → length ar ≤ 64 → (ts : List Token) → (inRange (length ar + 3) (length ar + 3) (codes ts) >>= checking (fewCheck 24)) ≡ ((5 unless all ts (permitted ar) >> (6 unless leb (length ts) 24 >> says ts)) >>= (λ ts. says (codes ts)))
-unfolding inRange
-token-test ar h ts = rw (← none-beyond (λ c. leb c (length ar + 3)) (length ar + 3) (λ c. refl) (codes ts), all-known ar h ts) (elim (decided (all ts (permitted ar))) [
-  | inr p ↦ unfold _unless_ _>>_ _>>=_ in rw p
-  | inl p ↦ elim (decided (leb (length ts) 24)) [
-    | inl q ↦ unfold _unless_ _>>_ _>>=_ in (rw (p, q) (check-passes (fewCheck 24) (codes ts) (few-ok 24 (codes ts) (omega (arith, codes-length ts, leb-true (length ts) 24 q)))))
-    | inr q ↦ unfold _unless_ _>>_ _>>=_ in (rw (p, q) (check-fails (fewCheck 24) (codes ts) 5 (few-not 24 (codes ts) (omega (arith, codes-length ts, leb-false (length ts) 24 q)))))
-  ]
-])
-
-says-bind : {X Y : Type 0} (x : X) (f : X → Checked Y) → (says x >>= f) ≡ f x
-unfolding _>>=_
-says-bind x f = refl
-
-pub tokens-judge : (ar value : List ℕ) → length ar ≤ 64 → (ranged 1 (length ar + 3) (length ar + 3) false value >>= checking (fewCheck 24)) ≡ (tokensIn ar value >>= (λ ts. says (codes ts)))
-unfolding ranged valuesOf values tokensIn
-tokens-judge ar value h =
-    rw (each-token (entries value))
-    (bind-bind (each token (entries value) >>= (λ ts. says (codes ts))) (inRange (length ar + 3) (length ar + 3)) (checking (fewCheck 24))
-    ∙ bind-bind (each token (entries value)) (λ ts. says (codes ts)) (λ ns. inRange (length ar + 3) (length ar + 3) ns >>= checking (fewCheck 24))
-    ∙ bind-same (each token (entries value)) _ _ (λ ts. says-bind (codes ts) (λ ns. inRange (length ar + 3) (length ar + 3) ns >>= checking (fewCheck 24)) ∙ token-test ar h ts)
-    ∙ sym (bind-bind (each token (entries value)) (λ ts. 5 unless all ts (permitted ar) >> (6 unless leb (length ts) 24 >> says ts)) (λ ts. says (codes ts))))
-
-after-tests : (b c : Bool) {X : Type 0} (ts : List Token) (f : List Token → Checked X) → ((5 unless b >> (6 unless c >> says ts)) >>= f) ≡ (5 unless b >> (6 unless c >> f ts))
-unfolding _unless_ _>>_ _>>=_
-after-tests true true ts f = refl
-after-tests true false ts f = refl
-after-tests false c ts f = refl
-
-pub term-tokens : (ar value : List ℕ) → term ar value ≡ (tokensIn ar value >>= termOf ar)
-unfolding term tokensIn
-term-tokens ar value =
-    bind-same (each token (entries value)) _ _ (λ ts. sym (after-tests (all ts (permitted ar)) (leb (length ts) 24) ts (termOf ar)))
-    ∙ sym (bind-bind (each token (entries value)) (λ ts. 5 unless all ts (permitted ar) >> (6 unless leb (length ts) 24 >> says ts)) (termOf ar))
-
-tested : (b c : Bool) (us ts : List Token) → (5 unless b >> (6 unless c >> says us)) ≡ says ts → (b ≡ true) × (c ≡ true) × (us ≡ ts)
-unfolding _unless_ _>>_
-tested true true us ts e = (refl, refl, cc)
-tested true false us ts e = absurd (silent e)
-tested false c us ts e = absurd (silent e)
-
-pub tokens-known : (ar value : List ℕ) (ts : List Token) → tokensIn ar value ≡ says ts → (all ts (permitted ar) ≡ true) × (length ts ≤ 24)
-unfolding tokensIn
-tokens-known ar value ts e =
-    let (us, p, q) = parts (each token (entries value)) _ e in
-    let (a, b, c) = tested (all us (permitted ar)) (leb (length us) 24) us ts q in
-    rw (← c) (a, leb-true (length us) 24 b)
-
--- Codes are tokens.
-pub decode : (ar : List ℕ) (ts : List Token) → all ts (permitted ar) ≡ true → tokensOf (codes ts) ≡ ts
-unfolding all codes tokensOf
-decode ar [] e = refl
-decode ar (t ∷ ts) e =
-    let (a, b) = and-eq-true-iff (permitted ar t) (all ts (permitted ar)) .0 e in
-    rw (one t a, decode ar ts b)
-  where
-    one : (t : Token) → permitted ar t ≡ true → tokenOf (codeOf t) ≡ t
-    one (symbol f) k = unfold tokenOf codeOf code in (rw (le-ltb (f + 4) 4 (omega arith), tokenOf) (ap symbol (omega arith)))
-    one (variable x) k = unfold tokenOf codeOf code permitted in (rw (k, code) (rw (lt-ltb x 4 (omega (arith, leb-true x 3 k)), tokenOf)))
-
--- 8: how many terms the tokens write.
+-- How many terms a row has, and how many are left behind its first n.
 size : Terms ℕ → ℕ
 size none = 0
 size (t then ts) = suc (size ts)
 
-enough : ℕ → ℕ → Checked ℕ
-enough n m = elim (leb n m) [ true ↦ says (m - n) | false ↦ fault 8 ]
+part-size : (n : ℕ) (us : Terms ℕ) → n ≤ size us → (p : Parts) × (part n us ≡ says p) × (size (p .behind) + n ≡ size us)
+unfolding part size _>>=_
+part-size zero us h = (_, refl, omega arith)
+part-size (suc n) none h = absurd (omega arith)
+part-size (suc n) (t then ts) h = let (p, e, f) = part-size n ts (omega arith) in (record { front = t then p .front; behind = p .behind }, rw e, omega arith)
 
-enough-suc : (n m : ℕ) → enough n m ≡ enough (suc n) (suc m)
-unfolding enough
-enough-suc n m = elim (decided (leb n m)) [
-  | inl p ↦ rw (p, le-leb (suc n) (suc m) (omega (arith, leb-true n m p)), enough) (ap says (omega arith))
-  | inr p ↦ rw (p, lt-leb (suc n) (suc m) (omega (arith, leb-false n m p)), enough)
-]
+part-short : (n : ℕ) (us : Terms ℕ) → size us < n → part n us ≡ fault 8
+unfolding part size _>>=_
+part-short zero us h = absurd (omega arith)
+part-short (suc n) none h = refl
+part-short (suc n) (t then ts) h = rw (part-short n ts (omega arith))
 
-longer : Term ℕ → Parts → Parts
-longer t p = record { front = t then p .front; behind = p .behind }
-
-behind-more : (t : Term ℕ) (j : Checked Parts) → ((j >>= (λ p. says (longer t p))) >>= (λ p. says (size (p .behind)))) ≡ (j >>= (λ p. says (size (p .behind))))
-unfolding _>>=_ longer
-behind-more t (fault n) = refl
-behind-more t (says p) = refl
-
-part-size : (n : ℕ) (us : Terms ℕ) → (part n us >>= (λ p. says (size (p .behind)))) ≡ enough n (size us)
-unfolding part size longer
-part-size zero us = unfold enough _>>=_ in (rw (le-leb 0 (size us) (omega arith), enough) (ap says (omega arith)))
-part-size (suc n) none = unfold enough _>>=_ in (rw (lt-leb (suc n) 0 (omega arith), enough))
-part-size (suc n) (t then ts) = behind-more t (part n ts) ∙ part-size n ts ∙ enough-suc n (size ts)
-
-node-more : (f : ℕ) (j : Checked Parts) → ((j >>= (λ p. says (node f (p .front) then p .behind))) >>= (λ us. says (size us))) ≡ ((j >>= (λ p. says (size (p .behind)))) >>= (λ n. says (n + 1)))
-unfolding _>>=_ size
-node-more f (fault n) = refl
-node-more f (says p) = ap says (omega arith)
-
-module _ (arities : List ℕ) (S : ℕ) (few : length (take S arities) ≡ S) where
-  closes-at : (c s n : ℕ) → 4 ≤ c → c - 4 ≡ s → (enough (getD arities s 0) n >>= (λ m. says (m + 1))) ≡ closes arities c n
-  closes-at c s n h e = rw (← e) (elim (decided (leb (getD arities (c - 4) 0) n)) [
-    | inl q ↦ unfold enough closes _>>=_ in (rw (le-ltb c 4 h, closes) (rw (q, enough)))
-    | inr q ↦ unfold enough closes _>>=_ in (rw (le-ltb c 4 h, closes) (rw (q, enough)))
-  ])
-
-  before-size : (t : Token) (us : Terms ℕ) → permitted (take S arities) t ≡ true → (before (take S arities) t us >>= (λ vs. says (size vs))) ≡ closes arities (codeOf t) (size us)
-  unfolding before permitted codeOf code
-  before-size (variable x) us k =
-      rw (k, code) (unfold closes _>>=_ size in (rw (lt-ltb x 4 (omega (arith, leb-true x 3 k)), closes) (ap says (omega arith))))
-  before-size (symbol f) us k =
-      let arity = getD-take S arities f 0 (omega (arith, ltb-true f (length (take S arities)) k)) in
-      node-more f (part (getD (take S arities) f 0) us) ∙ rw (part-size (getD (take S arities) f 0) us, arity) (closes-at (f + 4) f (size us) (omega arith) (omega arith))
-
-  terms-size : (ts : List Token) → all ts (permitted (take S arities)) ≡ true → (terms (take S arities) ts >>= (λ us. says (size us))) ≡ openTerms arities (codes ts)
-  unfolding terms all codes openTerms
-  terms-size [] e = unfold _>>=_ size in refl
-  terms-size (t ∷ ts) e =
-      let (a, b) = and-eq-true-iff (permitted (take S arities) t) (all ts (permitted (take S arities))) .0 e in
-      bind-bind (terms (take S arities) ts) (before (take S arities) t) (λ us. says (size us))
-      ∙ bind-same (terms (take S arities) ts) _ _ (λ us. before-size t us a ∙ sym (says-bind (size us) (closes arities (codeOf t))))
-      ∙ sym (bind-bind (terms (take S arities) ts) (λ us. says (size us)) (closes arities (codeOf t)))
-      ∙ ap (λ (j : Checked ℕ). j >>= closes arities (codeOf t)) (terms-size ts b)
-
--- Only 8 can refuse them.
-faults : {X Y : Type 0} (j : Checked X) (f : X → Checked Y) (m : ℕ) → (j >>= f) ≡ fault m → ((j ≡ fault m) ⊎ ((x : X) × (j ≡ says x) × (f x ≡ fault m)))
-unfolding _>>=_
-faults (fault n) f m e = inl (let same : n ≡ m = cc in ap fault same)
-faults (says x) f m e = inr (x, refl, e)
-
-eight : {X : Type 0} {x : X} {m : ℕ} → _≡_ {A = Checked X} (says x) (fault m) → m ≡ 8
-eight e = absurd (silent (sym e))
-
-part-eight : (n : ℕ) (us : Terms ℕ) (m : ℕ) → part n us ≡ fault m → m ≡ 8
-unfolding part
-part-eight zero us m e = eight e
-part-eight (suc n) none m e = cc
-part-eight (suc n) (t then ts) m e = elim (faults (part n ts) _ m e) [
-  | inl p ↦ part-eight n ts m p
-  | inr (x, p, q) ↦ eight q
-]
-
-terms-eight : (ar : List ℕ) (ts : List Token) (m : ℕ) → terms ar ts ≡ fault m → m ≡ 8
-unfolding terms before
-terms-eight ar [] m e = eight e
-terms-eight ar (variable x ∷ ts) m e = elim (faults (terms ar ts) _ m e) [
-  | inl p ↦ terms-eight ar ts m p
-  | inr (us, p, q) ↦ eight q
-]
-terms-eight ar (symbol f ∷ ts) m e = elim (faults (terms ar ts) _ m e) [
-  | inl p ↦ terms-eight ar ts m p
-  | inr (us, p, q) ↦ elim (faults (part (getD ar f 0) us) _ m q) [
-    | inl r ↦ part-eight (getD ar f 0) us m r
-    | inr (v, r, s) ↦ eight s
-  ]
-]
+-- What paper's row of terms and the count of them have in common: as many, or both refused, paper's by 8.
+Same : Checked (Terms ℕ) → Checked ℕ → Type 0
+Same (says us) (says n) = n ≡ size us
+Same (says us) (fault s) = ⊥
+Same (fault r) (says n) = ⊥
+Same (fault r) (fault s) = r ≡ 8
 
 single-one : (us : Terms ℕ) → eqb (size us) 1 ≡ true → (t : Term ℕ) × (single us ≡ says t)
 unfolding single size
@@ -229,24 +61,55 @@ single-not none e = refl
 single-not (t then none) e = absurd (eqb-false 1 1 e refl)
 single-not (t then (u then us)) e = refl
 
-module _ (ar : List ℕ) (ts : List Token) where
-  one-from : (j : Checked (Terms ℕ)) → isOne (j >>= (λ us. says (size us))) ≡ true → (t : Term ℕ) × ((j >>= single) ≡ says t)
-  unfolding isOne _>>=_
-  one-from (fault n) e = absurd (false≢true e)
-  one-from (says us) e = single-one us e
+module _ (arities : List ℕ) (S : ℕ) (few : length (take S arities) ≡ S) (most : S ≤ 64) where
+  before-size : (t : Token) (us : Terms ℕ) → permitted (take S arities) t ≡ true → Same (before (take S arities) t us) (closes arities (byteOf t) (size us))
+  unfolding before permitted byteOf closes Same size _>>=_
+  before-size (variable x) us k = rw (le-ltb (64 + x) 64 (omega arith), closes) (omega arith)
+  before-size (symbol f) us k =
+      let listed : f < S = omega (arith, ltb-true f (length (take S arities)) k) in
+      let arity = getD-take S arities f 0 listed in
+      let low = lt-ltb f 64 (omega arith) in
+      elim (decided (leb (getD arities f 0) (size us))) [
+        | inl q ↦
+            let (p, e, g) = part-size (getD arities f 0) us (leb-true _ _ q) in
+            rw (low, arity, q, e, closes) (omega arith)
+        | inr q ↦ rw (low, arity, q, part-short (getD arities f 0) us (leb-false _ _ q), closes)
+      ]
 
-  not-from : (j : Checked (Terms ℕ)) → ((m : ℕ) → j ≡ fault m → m ≡ 8) → isOne (j >>= (λ us. says (size us))) ≡ false → (j >>= single) ≡ fault 8
-  unfolding isOne _>>=_
-  not-from (fault n) h e = ap fault (h n refl)
-  not-from (says us) h e = single-not us e
+  terms-size : (ts : List Token) → all ts (permitted (take S arities)) ≡ true → Same (terms (take S arities) ts) (openTerms arities (map byteOf ts))
+  unfolding terms all openTerms Same size _>>=_
+  terms-size [] e = refl
+  terms-size (t ∷ ts) e =
+      let (a, b) = and-eq-true-iff (permitted (take S arities) t) (all ts (permitted (take S arities))) .0 e in
+      go a (terms (take S arities) ts) (openTerms arities (map byteOf ts)) (terms-size ts b)
+    where
+      go : permitted (take S arities) t ≡ true → (j : Checked (Terms ℕ)) (k : Checked ℕ) → Same j k → Same (j >>= before (take S arities) t) (k >>= closes arities (byteOf t))
+      go a (says us) (says n) e = rw e (before-size t us a)
+      go a (says us) (fault s) e = absurd e
+      go a (fault r) (says n) e = absurd e
+      go a (fault r) (fault s) e = e
 
-pub one-term : (arities : List ℕ) (S : ℕ) (few : length (take S arities) ≡ S) (ts : List Token) → all ts (permitted (take S arities)) ≡ true → isOne (openTerms arities (codes ts)) ≡ true → (t : Term ℕ) × (termOf (take S arities) ts ≡ says t)
-unfolding termOf
-one-term arities S few ts k e = one-from (take S arities) ts (terms (take S arities) ts) (ap isOne (terms-size arities S few ts k) ∙ e)
+  module _ (ts : List Token) (k : all ts (permitted (take S arities)) ≡ true) where
+    -- 8: not one term.
+    pub one-term : isOne (openTerms arities (map byteOf ts)) ≡ true → (t : Term ℕ) × (termOf (take S arities) ts ≡ says t)
+    unfolding termOf isOne Same _>>=_
+    one-term e = go (terms (take S arities) ts) (openTerms arities (map byteOf ts)) (terms-size ts k) e
+      where
+        go : (j : Checked (Terms ℕ)) (k : Checked ℕ) → Same j k → isOne k ≡ true → (t : Term ℕ) × ((j >>= single) ≡ says t)
+        go (says us) (says n) h e = single-one us (rw h at e)
+        go (says us) (fault s) h e = absurd h
+        go (fault r) (says n) h e = absurd h
+        go (fault r) (fault s) h e = absurd (false≢true e)
 
-pub not-term : (arities : List ℕ) (S : ℕ) (few : length (take S arities) ≡ S) (ts : List Token) → all ts (permitted (take S arities)) ≡ true → isOne (openTerms arities (codes ts)) ≡ false → termOf (take S arities) ts ≡ fault 8
-unfolding termOf
-not-term arities S few ts k e = not-from (take S arities) ts (terms (take S arities) ts) (terms-eight (take S arities) ts) (ap isOne (terms-size arities S few ts k) ∙ e)
+    pub not-term : isOne (openTerms arities (map byteOf ts)) ≡ false → termOf (take S arities) ts ≡ fault 8
+    unfolding termOf isOne Same _>>=_
+    not-term e = go (terms (take S arities) ts) (openTerms arities (map byteOf ts)) (terms-size ts k) e
+      where
+        go : (j : Checked (Terms ℕ)) (k : Checked ℕ) → Same j k → isOne k ≡ false → (j >>= single) ≡ fault 8
+        go (says us) (says n) h e = single-not us (rw h at e)
+        go (says us) (fault s) h e = absurd h
+        go (fault r) (says n) h e = absurd h
+        go (fault r) (fault s) h e = ap fault h
 
 -- The variables of a term are those of its tokens.
 vars : List Token → List ℕ
@@ -271,99 +134,125 @@ mutual
   row-vars none = refl
   row-vars (t then ts) = rw (term-vars t, row-vars ts) (sym (vars-append (preorder t) (preorderAll ts)))
 
-low-code : (x : ℕ) → leb x 3 ≡ true → codeOf (variable x) ≡ x
-unfolding codeOf code
-low-code x k = rw (k, code)
+-- The variables' bytes begin at 64.
+eqb-up : (x k : ℕ) → eqb (64 + x) (64 + k) ≡ eqb x k
+eqb-up x k = elim (decided (eqb x k)) [
+  | inl p ↦ rw (p, eq-eqb (64 + x) (64 + k) (omega (arith, eqb-true x k p)))
+  | inr p ↦ rw (p, ne-eqb (64 + x) (64 + k) (λ e. eqb-false x k p (omega arith)))
+]
 
--- 9: bare, or not in order.
-pub bare-first : (ar : List ℕ) (t : Term ℕ) → all (preorder t) (permitted ar) ≡ true → getD (codes (preorder t)) 0 0 < 4 → bare t ≡ true
-unfolding preorder codes all bare codeOf code
-bare-first ar (var x) k h = refl
-bare-first ar (node f ts) k h = absurd (omega arith)
+step-variable : (x k : ℕ) → stepLined (64 + x) k ≡ elim (eqb x k) [ true ↦ Count (k + 1) | false ↦ Broken ]
+unfolding stepLined
+step-variable x k = rw (le-ltb (64 + x) 64 (omega arith), eqb-up x k, stepLined)
 
-pub not-bare : (ar : List ℕ) (t : Term ℕ) → all (preorder t) (permitted ar) ≡ true → 4 ≤ getD (codes (preorder t)) 0 0 → bare t ≡ false
-unfolding preorder codes all bare permitted
-not-bare ar (var x) k h =
-    let (a, b) = and-eq-true-iff (leb x 3) true .0 k in
-    absurd (omega (arith, low-code x a, leb-true x 3 a))
-not-bare ar (node f ts) k h = refl
+step-symbol : (f k : ℕ) → f < 64 → stepLined f k ≡ Count k
+unfolding stepLined
+step-symbol f k h = rw (lt-ltb f 64 h, stepLined)
 
 ordered : Bool → ℕ → Lined
 ordered true n = Count n
 ordered false n = Broken
 
-lined-vars : (ar : List ℕ) (ts : List Token) (k : ℕ) → all ts (permitted ar) ≡ true → lined k (codes ts) ≡ ordered (same (vars ts) (countFrom k (length (vars ts)))) (k + length (vars ts))
-unfolding ordered all codes vars countFrom same lined permitted
-lined-vars ar [] k e = ap Count (omega arith)
-lined-vars ar (symbol f ∷ ts) k e =
-    let (a, b) = and-eq-true-iff (ltb f (length ar)) (all ts (permitted ar)) .0 e in
-    let s : stepLined (codeOf (symbol f)) k ≡ Count k = unfold stepLined codeOf code in (rw (le-ltb (f + 4) 4 (omega arith), stepLined)) in
-    rw (s, lined) (lined-vars ar ts k b)
-lined-vars ar (variable x ∷ ts) k e =
-    let (a, b) = and-eq-true-iff (leb x 3) (all ts (permitted ar)) .0 e in
-    let low = lt-ltb x 4 (omega (arith, leb-true x 3 a)) in
-    rw (low-code x a) (elim (decided (eqb x k)) [
-      | inl p ↦
-          let s : stepLined x k ≡ Count (k + 1) = unfold stepLined in (rw (low, p, stepLined)) in
-          let q : k + 1 ≡ suc k = omega arith in
-          let r : k + suc (length (vars ts)) ≡ suc k + length (vars ts) = omega arith in
-          rw (s, lined) (rw (p, q, r) (lined-vars ar ts (suc k) b))
-      | inr p ↦
-          let s : stepLined x k ≡ Broken = unfold stepLined in (rw (low, p, stepLined)) in
-          rw (s, lined) (rw p)
-    ])
-
-module _ (ar : List ℕ) (t : Term ℕ) (k : all (preorder t) (permitted ar) ≡ true) where
-  pub in-order : (v : ℕ) → lined 0 (codes (preorder t)) ≡ Count v → (same (variables t) (countFrom 0 (length (variables t))) ≡ true) × (variables t ≡ countFrom 0 v)
-  unfolding ordered
-  in-order v e = elim (decided (same (vars (preorder t)) (countFrom 0 (length (vars (preorder t)))))) [
-    | inl p ↦
-        let f = rw p at (sym (lined-vars ar (preorder t) 0 k) ∙ e) in
-        let n : 0 + length (vars (preorder t)) ≡ v = cc in
-        let m : length (vars (preorder t)) ≡ v = omega arith in
-        rw (term-vars t) (p, same-lists _ _ p ∙ ap (countFrom 0) m)
-    | inr p ↦ let f = rw p at (sym (lined-vars ar (preorder t) 0 k) ∙ e) in let z : _≡_ {A = ℕ} 0 1 = cc in absurd (omega arith)
-  ]
-
-  pub out-of-order : lined 0 (codes (preorder t)) ≡ Broken → same (variables t) (countFrom 0 (length (variables t))) ≡ false
-  unfolding ordered
-  out-of-order e = elim (decided (same (vars (preorder t)) (countFrom 0 (length (vars (preorder t)))))) [
-    | inl p ↦ let f = rw p at (sym (lined-vars ar (preorder t) 0 k) ∙ e) in let z : _≡_ {A = ℕ} 0 1 = cc in absurd (omega arith)
-    | inr p ↦ rw (term-vars t) p
-  ]
-
--- 10: a variable that the left side lacks.
-some-count : (x a v : ℕ) → any (countFrom a v) (eqb x) ≡ (leb a x && ltb x (a + v))
-unfolding any countFrom
-some-count x a zero = elim (decided (leb a x)) [
-  | inl p ↦ rw (p, le-ltb x (a + 0) (omega (arith, leb-true a x p)))
-  | inr p ↦ rw p
-]
-some-count x a (suc v) = elim (decided (eqb x a)) [
-  | inl p ↦ let e = eqb-true x a p in rw (p, le-leb a x (omega arith), lt-ltb x (a + suc v) (omega arith))
-  | inr p ↦ let e = eqb-false x a p in rw (p, some-count x (suc a) v) (elim (decided (leb a x)) [
-    | inl q ↦ let l = leb-true a x q in let r : suc a + v ≡ a + suc v = omega arith in rw (q, le-leb (suc a) x (differ a x l e), r)
-    | inr q ↦ let l = leb-false a x q in rw (q, lt-leb (suc a) x (omega arith))
+not-strange : (x v : ℕ) → any (countFrom 0 v) (eqb x) ≡ not (strange v (64 + x))
+unfolding strange
+not-strange x v = elim (decided (leb (64 + v) (64 + x))) [
+  | inr p ↦ rw p (listed-iff x (countFrom 0 v) .1 (order-mem 0 v x (omega arith) (omega (arith, leb-false (64 + v) (64 + x) p))))
+  | inl p ↦ rw p (elim (decided (any (countFrom 0 v) (eqb x))) [
+    | inl q ↦ absurd (omega (arith, mem-order 0 v (listed-iff x (countFrom 0 v) .0 q), leb-true (64 + v) (64 + x) p))
+    | inr q ↦ q
   ])
 ]
-  where
-    differ : (a x : ℕ) → a ≤ x → (x ≡ a → ⊥) → suc a ≤ x
-    differ a x l e = omega (arith, e)
 
-strange-vars : (ar : List ℕ) (v : ℕ) (ts : List Token) → all ts (permitted ar) ≡ true → noStrange v (codes ts) ≡ all (vars ts) (λ x. any (countFrom 0 v) (eqb x))
-unfolding all codes vars noStrange permitted strange
-strange-vars ar v [] e = refl
-strange-vars ar v (symbol f ∷ ts) e =
-    let (a, b) = and-eq-true-iff (ltb f (length ar)) (all ts (permitted ar)) .0 e in
-    let s : strange v (codeOf (symbol f)) ≡ false = unfold codeOf code in (rw (le-ltb (f + 4) 4 (omega arith))) in
-    rw (s, noStrange) (strange-vars ar v ts b)
-strange-vars ar v (variable x ∷ ts) e =
-    let (a, b) = and-eq-true-iff (leb x 3) (all ts (permitted ar)) .0 e in
-    let low = lt-ltb x 4 (omega (arith, leb-true x 3 a)) in
-    rw (low-code x a, some-count x 0 v, le-leb 0 x (omega arith)) (elim (decided (leb v x)) [
-      | inl p ↦ rw (low, p, noStrange) (rw (le-ltb x (0 + v) (omega (arith, leb-true v x p))))
-      | inr p ↦ rw (low, p, noStrange) (rw (lt-ltb x (0 + v) (omega (arith, leb-false v x p))) (strange-vars ar v ts b))
-    ])
+-- Listed tokens, over 64 symbols at most.
+module _ (ar : List ℕ) (most : length ar ≤ 64) where
+  listed-symbol : (f : ℕ) → permitted ar (symbol f) ≡ true → f < 64
+  unfolding permitted
+  listed-symbol f k = omega (arith, ltb-true f (length ar) k)
 
-pub right-known : (ar : List ℕ) (l r : Term ℕ) (v : ℕ) → all (preorder r) (permitted ar) ≡ true → variables l ≡ countFrom 0 v → all (variables r) (λ x. any (variables l) (eqb x)) ≡ noStrange v (codes (preorder r))
-right-known ar l r v k e = rw (e, term-vars r) (sym (strange-vars ar v (preorder r) k))
+  -- Bytes are tokens.
+  token-back : (t : Token) → permitted ar t ≡ true → tokenOf (byteOf t) ≡ t
+  unfolding tokenOf byteOf
+  token-back (symbol f) k = rw (lt-ltb f 64 (listed-symbol f k))
+  token-back (variable x) k = let p : 64 + x - 64 ≡ x = omega arith in rw (le-ltb (64 + x) 64 (omega arith), p)
+
+  pub tokens-back : (ts : List Token) → all ts (permitted ar) ≡ true → map tokenOf (map byteOf ts) ≡ ts
+  unfolding all
+  tokens-back [] e = refl
+  tokens-back (t ∷ ts) e =
+      let (a, b) = and-eq-true-iff (permitted ar t) (all ts (permitted ar)) .0 e in
+      rw (token-back t a, tokens-back ts b)
+
+  lined-vars : (ts : List Token) (k : ℕ) → all ts (permitted ar) ≡ true → lined k (map byteOf ts) ≡ ordered (same (vars ts) (countFrom k (length (vars ts)))) (k + length (vars ts))
+  unfolding ordered all byteOf vars countFrom same lined
+  lined-vars [] k e = ap Count (omega arith)
+  lined-vars (symbol f ∷ ts) k e =
+      let (a, b) = and-eq-true-iff (permitted ar (symbol f)) (all ts (permitted ar)) .0 e in
+      rw (step-symbol f k (listed-symbol f a), lined) (lined-vars ts k b)
+  lined-vars (variable x ∷ ts) k e =
+      let (a, b) = and-eq-true-iff (permitted ar (variable x)) (all ts (permitted ar)) .0 e in
+      elim (decided (eqb x k)) [
+        | inl p ↦
+            let q : k + 1 ≡ suc k = omega arith in
+            let r : k + suc (length (vars ts)) ≡ suc k + length (vars ts) = omega arith in
+            rw (step-variable x k, p, lined) (rw (q, r) (lined-vars ts (suc k) b))
+        | inr p ↦ rw (step-variable x k, p, lined)
+      ]
+
+  strange-vars : (v : ℕ) (ts : List Token) → all ts (permitted ar) ≡ true → noStrange v (map byteOf ts) ≡ all (vars ts) (λ x. any (countFrom 0 v) (eqb x))
+  unfolding all byteOf vars noStrange
+  strange-vars v [] e = refl
+  strange-vars v (symbol f ∷ ts) e =
+      let (a, b) = and-eq-true-iff (permitted ar (symbol f)) (all ts (permitted ar)) .0 e in
+      let s : strange v f ≡ false = unfold strange in (lt-leb (64 + v) f (omega (arith, listed-symbol f a))) in
+      rw (s, noStrange) (strange-vars v ts b)
+  strange-vars v (variable x ∷ ts) e =
+      let (a, b) = and-eq-true-iff (permitted ar (variable x)) (all ts (permitted ar)) .0 e in
+      rw (not-strange x v) (elim (decided (strange v (64 + x))) [
+        | inl p ↦ rw (p, noStrange)
+        | inr p ↦ rw (p, noStrange) (strange-vars v ts b)
+      ])
+
+  module _ (t : Term ℕ) (k : all (preorder t) (permitted ar) ≡ true) where
+    -- 9: bare, or not in order.
+    pub bare-first : bare t ≡ leb 64 (getD (sideOf t) 0 0)
+    unfolding bare sideOf preorder byteOf all
+    bare-first = go t k
+      where
+        go : (t : Term ℕ) → all (preorder t) (permitted ar) ≡ true → bare t ≡ leb 64 (getD (map byteOf (preorder t)) 0 0)
+        go (var x) k = sym (le-leb 64 (64 + x) (omega arith))
+        go (node f ts) k =
+            let (a, b) = and-eq-true-iff (permitted ar (symbol f)) (all (preorderAll ts) (permitted ar)) .0 k in
+            sym (lt-leb 64 f (listed-symbol f a))
+
+    in-line : lined 0 (sideOf t) ≡ ordered (same (variables t) (countFrom 0 (length (variables t)))) (0 + length (variables t))
+    unfolding sideOf
+    in-line = rw (term-vars t) (lined-vars (preorder t) 0 k)
+
+    few-variables : (v : ℕ) → variables t ≡ countFrom 0 v → v ≤ 4
+    few-variables v e = elim (decided (leb v 4)) [
+      | inl p ↦ leb-true v 4 p
+      | inr p ↦ absurd (omega (arith, tokens-exact ar t .0 k .1 4 (rw (← e) at (order-mem 0 v 4 (omega arith) (omega (arith, leb-false v 4 p))))))
+    ]
+
+    pub in-order : (v : ℕ) → lined 0 (sideOf t) ≡ Count v → (same (variables t) (countFrom 0 (length (variables t))) ≡ true) × (variables t ≡ countFrom 0 v) × (v ≤ 4)
+    unfolding ordered
+    in-order v e = elim (decided (same (variables t) (countFrom 0 (length (variables t))))) [
+      | inl p ↦
+          let f = rw p at (sym in-line ∙ e) in
+          let n : 0 + length (variables t) ≡ v = cc in
+          let q : variables t ≡ countFrom 0 v = same-lists _ _ p ∙ ap (countFrom 0) (omega arith) in
+          (p, q, few-variables v q)
+      | inr p ↦ let f = rw p at (sym in-line ∙ e) in let z : _≡_ {A = ℕ} 0 1 = cc in absurd (omega arith)
+    ]
+
+    pub out-of-order : lined 0 (sideOf t) ≡ Broken → same (variables t) (countFrom 0 (length (variables t))) ≡ false
+    unfolding ordered
+    out-of-order e = elim (decided (same (variables t) (countFrom 0 (length (variables t))))) [
+      | inl p ↦ let f = rw p at (sym in-line ∙ e) in let z : _≡_ {A = ℕ} 0 1 = cc in absurd (omega arith)
+      | inr p ↦ p
+    ]
+
+    -- 10: a variable that the left side lacks.
+    pub right-known : (l : Term ℕ) (v : ℕ) → variables l ≡ countFrom 0 v → all (variables t) (λ x. any (variables l) (eqb x)) ≡ noStrange v (sideOf t)
+    unfolding sideOf
+    right-known l v e = rw (e, term-vars t) (sym (strange-vars v (preorder t) k))

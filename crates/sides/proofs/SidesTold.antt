@@ -1,293 +1,202 @@
--- What the code found of a side's tokens, told in paper's words.
+-- What the code found of a side's line, told in paper's words: one law for both sides, and what each tests besides.
 use mathlib.Core.Path.{_≡_, refl, sym, ap, _∙_}
 use mathlib.Core.Bool.{Bool, true, false, _&&_, not}
-use mathlib.Core.List.{List, [], _∷_}
-use Prim.Native.Nat.{ℕ, _+_, _-_, _≤_, _<_}
+use mathlib.Core.List.{List, [], _∷_, map}
+use Prim.Native.Nat.{ℕ, _≤_, _<_}
 use native.Mathlib.Omega.{arith}
-use borrow.Author.Tests.{ltb-true, eqb-true}
-use lib.Dec.{eqb, ltb}
-use lib.ListN.{length, drop, take, getD, replicate}
+use borrow.Author.Tests.{le-leb, lt-leb}
+use lib.Dec.{eqb, leb}
+use lib.ListN.{length, drop, take, getD}
 use Rattle.theory.specs.Lists.{countFrom, any}
 use Rattle.theory.specs.Term.{Term, variables}
 use Rattle.theory.specs.Preorder.{Token, preorder}
 use Rattle.paper.specs.Checked.{Checked, fault, says, _>>=_, _>>_, _unless_}
-use Rattle.paper.specs.Lines.{Said, after, ended}
 use Rattle.paper.specs.Fields.{all}
-use Rattle.paper.specs.Sides.{permitted, termOf, same, bare, leftSide, rightSide}
-use Rattle.paper.proofs.Checked.{silent, parts}
+use Rattle.paper.specs.Certificate.{Row}
+use Rattle.paper.specs.Format.{Reading, refused, gave, lineOf}
+use Rattle.paper.specs.Sides.{permitted, term, termOf, same, bare, leftSide, rightSide}
 use Rattle.paper.proofs.Preorder.{preorder-exact}
+use Rattle.tables.specs.Held.{byteOf, sideOf, spoken}
 use Rattle.fields.specs.declared.cursor.Cursor.{Cursor}
 use Rattle.fields.specs.declared.lists.Items.{Items}
 use Rattle.fields.specs.declared.lists.Listed.the-variants.{Got, Refused}
-use Rattle.sides.specs.declared.Lined.{Lined}
+use Rattle.fields.specs.Line.{lineRow}
+use Rattle.fields.specs.Padded.{padded}
+use Rattle.fields.specs.Trans.{refusalIn}
+use Rattle.fields.proofs.Steps.{bind-bind}
 use Rattle.sides.specs.declared.Lined.the-variants.{Count, Broken}
 use Rattle.sides.specs.declared.Side.{Side}
 use Rattle.sides.specs.declared.Ends.the-variants.{Got as GotSide}
-use Rattle.fields.specs.Line.{openAt}
-use Rattle.fields.specs.Listed.{laid}
-use Rattle.fields.specs.Lines.{entryLine, checked, fewCheck, itemsOf}
-use Rattle.fields.specs.Trans.{refusalIn}
-use Rattle.fields.specs.Padded.{padded}
-use Rattle.fields.specs.Said.{keyed, saidLine}
-use Rattle.sides.specs.Tokens.{spoken, meant, openTerms, isOne, stepLined, lined, noStrange, saidEnds, saidSide, noSide, codes, CountedEnds, CountedSide, CarriedEnds, WholeEnds, WholeSide, LeftLine, RightLine}
-use Rattle.fields.proofs.LinesLaws.{got-line}
-use Rattle.fields.proofs.MergeLaws.{take-items}
-use Rattle.fields.proofs.TellLaws.{tell-checked, tell-few, bad-line, within-opened}
-use Rattle.fields.proofs.Whole.{laid-padded, padded-low, place-within}
-use Rattle.fields.proofs.Entries.{found}
-use Rattle.fields.proofs.Bridge.{onward, judge-more, checked-said, keyed-same}
-use Rattle.fields.proofs.Judges.{bind-bind}
-use Rattle.sides.proofs.SideLaws.{codes-length, tokensIn, tokens-judge, term-tokens, tokens-known, decode, one-term, not-term, bare-first, not-bare, in-order, out-of-order, right-known}
+use Rattle.sides.specs.Tokens.{meant, openTerms, isOne, lined, noStrange, saidEnds, saidSide, noSide}
+use Rattle.sides.specs.Tokens.{CountedEnds, CountedSide, CarriedEnds, WholeTokens, WholeEnds, WholeSide, LeftLine, RightLine}
+use Rattle.sides.proofs.SideLaws.{one-term, not-term, tokens-back, bare-first, in-order, out-of-order, right-known}
+use Rattle.sides.proofs.TokenLines.{tokensIn, term-tokens, answered, TermLine, TokenLine, token-line, token-refused}
 
-laid-first : (ns : List ℕ) → getD (laid ns (replicate 64 0)) 0 0 ≡ getD ns 0 0
-unfolding laid
-laid-first [] = refl
-laid-first (v ∷ ns) = refl
+-- A side is a term that passes a test; its failing has a number.
+unfoldable sideBy : ℕ → (Term ℕ → Bool) → List ℕ → List ℕ → Checked (Term ℕ)
+sideBy number test ar value = term ar value >>= (λ t. number unless test t >> says t)
 
--- A line that says something was judged at some value.
-pub judged-at : {X : Type 0} (key : List ℕ) (judge : List ℕ → Checked X) (bs : List ℕ) (s : Said X) → keyed key judge bs ≡ says s → (value : List ℕ) × (judge value ≡ says (s .what))
-unfolding keyed
-judged-at key judge bs s e =
-    let (b, p, f) = parts (after key bs) _ e in
-    let (l, q, g) = parts (ended b) _ f in
-    let (x, r, h) = parts (judge (l .what)) _ g in
-    (l .what, r ∙ ap says (let same : _≡_ {A = Said _} (record { what = x; rest = l .rest }) s = cc in ap (λ (t : Said _). t .what) same))
+unfoldable termBy : ℕ → (Term ℕ → Bool) → Checked (Term ℕ) → Checked (Term ℕ)
+termBy number test j = j >>= (λ t. number unless test t >> says t)
 
--- What a line's tokens are.
-pub record TokenLine (file key arities : List ℕ) (S at : ℕ) (it : Items) (n : ℕ) (d : Cursor) : Type 0 where
-  pub ts : List Token
-  pub listed : all ts (permitted (take S arities)) ≡ true
-  pub are : take n (it .items) ≡ codes ts
-  pub few : n ≤ 24
-  pub first : getD (it .items) 0 0 ≡ getD (codes ts) 0 0
-  pub low : (k : ℕ) → getD (it .items) k 0 < 68
-  pub many : n ≡ length ts
-  pub behind : it .items ≡ padded 64 (take n (it .items))
-  pub placed : d .at ≤ length file
-  pub said : keyed key (tokensIn (take S arities)) (drop at file) ≡ says (record { what = ts; rest = drop (d .at) file })
+-- The reading of a side's line.
+unfoldable lineBy : List ℕ → List ℕ → Row → Cursor → ℕ → (Term ℕ → Bool) → Reading (Term ℕ)
+lineBy file ar R c number test = lineOf (R .key) (sideBy number test ar) (c .line) (drop (c .at) file)
 
-module _ (file key arities : List ℕ) (S at : ℕ) (few : length (take S arities) ≡ S) (most : S ≤ 64) where
-  -- the codes that the machine found
-  coded-said : saidLine file (checked (fewCheck 24) (entryLine 1 key (S + 3) (S + 3) false file at)) ≡ (keyed key (tokensIn (take S arities)) (drop at file) >>= onward (λ ts. says (codes ts)))
-  coded-said =
-      checked-said file key 1 (S + 3) (S + 3) false (fewCheck 24) at (omega arith)
-      ∙ keyed-same key _ _ (λ value. rw few at (tokens-judge (take S arities) value (omega (arith, few)))) (drop at file)
-      ∙ sym (judge-more key (tokensIn (take S arities)) (λ ts. says (codes ts)) (drop at file))
-
-  onward-says : (s : Said (List Token)) (ns rest : List ℕ) → onward (λ ts. says (codes ts)) s ≡ says (record { what = ns; rest = rest }) → (codes (s .what) ≡ ns) × (s .rest ≡ rest)
-  unfolding onward found _>>=_
-  onward-says s ns rest e =
-      let same : _≡_ {A = Said (List ℕ)} (record { what = codes (s .what); rest = s .rest }) (record { what = ns; rest = rest }) = cc in
-      (ap (λ (t : Said (List ℕ)). t .what) same, ap (λ (t : Said (List ℕ)). t .rest) same)
-
-  pub token-line : (it : Items) (n : ℕ) (a : Bool) (d : Cursor) → it ≡ itemsOf (checked (fewCheck 24) (entryLine 1 key (S + 3) (S + 3) false file at)) → it .answer ≡ Got n a d → TokenLine file key arities S at it n d
-  unfolding saidLine
-  token-line it n a d h e =
-      let g = got-line _ it n a d h e in
-      let (l, z) = tell-checked (fewCheck 24) _ (g .ns) (d .at) (g .is) in
-      let short = tell-few 24 (g .ns) z in
-      let (s, p, q) = parts (keyed key (tokensIn (take S arities)) (drop at file)) _ (sym coded-said ∙ ap (saidLine file) (g .is)) in
-      let (c, r) = onward-says s (g .ns) (drop (d .at) file) q in
-      let (value, j) = judged-at key (tokensIn (take S arities)) (drop at file) s p in
-      let t = take-items (g .ns) (it .items) n (g .count) (omega (arith, g .count)) (g .items) in
-      let bounded = within-opened 1 (S + 3) (S + 3) (S + 3) (omega arith) (omega arith) false file (openAt key file at) (g .ns) (d .at) l in
-      record {
-        ts = s .what;
-        listed = tokens-known (take S arities) value (s .what) j .0;
-        are = t ∙ sym c;
-        few = omega (arith, g .count);
-        first = ap (λ (l : List ℕ). getD l 0 0) (g .items) ∙ laid-first (g .ns) ∙ ap (λ (l : List ℕ). getD l 0 0) (sym c);
-        low = λ k. rw (g .items, laid-padded 64 (g .ns)) (omega (arith, padded-low (S + 3) 64 (g .ns) bounded k));
-        many = g .count ∙ ap length (sym c) ∙ codes-length (s .what);
-        behind = g .items ∙ laid-padded 64 (g .ns) ∙ ap (padded 64) (sym t);
-        placed = place-within 1 key (S + 3) (S + 3) false file at (g .ns) (d .at) l;
-        said = p ∙ ap says (same-said s (drop (d .at) file) r);
-      }
-    where
-      same-said : (s : Said (List Token)) (rest : List ℕ) → s .rest ≡ rest → s ≡ record { what = s .what; rest = rest }
-      same-said s rest r = rw (← r)
-
-  fault-onward : {Y : Type 0} (j : Checked (Said (List Token))) (r : ℕ) (f : List Token → Checked Y) → (j >>= onward (λ ts. says (codes ts))) ≡ fault r → (j >>= onward f) ≡ fault r
-  unfolding onward found _>>=_
-  fault-onward (fault n) r f e = let same : n ≡ r = cc in ap fault same
-  fault-onward (says s) r f e = absurd (silent (sym e))
-
-  pub token-refused : {Y : Type 0} (f : List Token → Checked Y) (it : Items) (r : ℕ) → it ≡ itemsOf (checked (fewCheck 24) (entryLine 1 key (S + 3) (S + 3) false file at)) → it .answer ≡ Refused r
-      → keyed key (λ value. tokensIn (take S arities) value >>= f) (drop at file) ≡ fault (refusalIn (it .answer))
-  unfolding saidLine refusalIn
-  token-refused f it r h e =
-      let b = bad-line _ it r h e in
-      rw e (sym (judge-more key (tokensIn (take S arities)) f (drop at file)) ∙ fault-onward (keyed key (tokensIn (take S arities)) (drop at file)) r f (sym coded-said ∙ ap (saidLine file) b))
-
-  pub token-said : {Y : Type 0} (f : List Token → Checked Y) (it : Items) (n : ℕ) (d : Cursor) → (t : TokenLine file key arities S at it n d)
-      → keyed key (λ value. tokensIn (take S arities) value >>= f) (drop at file) ≡ found (drop (d .at) file) (f (t .ts))
-  unfolding onward _>>=_
-  token-said f it n d t = sym (judge-more key (tokensIn (take S arities)) f (drop at file)) ∙ rw (t .said)
-
--- A left side, from its tokens.
-unfoldable leftOf : List ℕ → List Token → Checked (Term ℕ)
-leftOf ar ts = termOf ar ts >>= (λ l. 9 unless (not (bare l) && same (variables l) (countFrom 0 (length (variables l)))) >> says l)
-
-unfoldable rightOf : List ℕ → Term ℕ → List Token → Checked (Term ℕ)
-rightOf ar l ts = termOf ar ts >>= (λ r. 10 unless all (variables r) (λ x. any (variables l) (eqb x)) >> says r)
-
-left-tokens : (ar value : List ℕ) → (tokensIn ar value >>= leftOf ar) ≡ leftSide ar value
-unfolding leftSide leftOf
-left-tokens ar value = sym (rw (term-tokens ar value) (bind-bind (tokensIn ar value) (termOf ar) (λ l. 9 unless (not (bare l) && same (variables l) (countFrom 0 (length (variables l)))) >> says l)))
-
-right-tokens : (ar value : List ℕ) (l : Term ℕ) → (tokensIn ar value >>= rightOf ar l) ≡ rightSide ar l value
-unfolding rightSide rightOf
-right-tokens ar value l = sym (rw (term-tokens ar value) (bind-bind (tokensIn ar value) (termOf ar) (λ r. 10 unless all (variables r) (λ x. any (variables l) (eqb x)) >> says r)))
-
--- a line that is refused
-module _ (file key ar : List ℕ) (at : ℕ) (r : Side) (k : ℕ) (e : r ≡ noSide k) where
-  none-counted : CountedSide ar r
-  unfolding CountedSide CountedEnds noSide
-  none-counted = rw e tt
-
-  none-carried : (v : ℕ) → CarriedEnds v (r .answer)
-  unfolding CarriedEnds noSide
-  none-carried v = rw e tt
-
-  none-whole : WholeSide file ar r
-  unfolding WholeSide WholeEnds noSide
-  none-whole = rw e refl
-
-  pub no-left : saidSide file ar r ≡ keyed key (leftSide ar) (drop at file) → LeftLine file key ar at r
-  no-left h = record { said = h; counted = none-counted; whole = none-whole }
-
-  pub no-right : (v : ℕ) → ((l : Term ℕ) → variables l ≡ countFrom 0 v → saidSide file ar r ≡ keyed key (rightSide ar l) (drop at file)) → RightLine file key ar at v r
-  no-right v h = record { said = h; carried = none-carried v; whole = none-whole }
-
--- variables that come in order are four at most
-step-few : (c k w : ℕ) → k ≤ 4 → stepLined c k ≡ Count w → w ≤ 4
-unfolding stepLined
-step-few c k w h e = go (ltb c 4) refl (eqb c k) refl
+by-tokens : (file ar : List ℕ) (R : Row) (c : Cursor) (number : ℕ) (test : Term ℕ → Bool)
+    → lineBy file ar R c number test ≡ lineOf (R .key) (λ value. tokensIn ar value >>= (λ ts. termBy number test (termOf ar ts))) (c .line) (drop (c .at) file)
+unfolding lineBy sideBy termBy
+by-tokens file ar R c number test = λ i. lineOf (R .key) (λ value. turned value i) (c .line) (drop (c .at) file)
   where
-    go : (a : Bool) → ltb c 4 ≡ a → (b : Bool) → eqb c k ≡ b → w ≤ 4
-    go true p true q =
-        let z : Count (k + 1) ≡ Count w = rw (p, q, stepLined) at e in
-        let y : k + 1 ≡ w = cc in
-        omega (arith, ltb-true c 4 p, eqb-true c k q)
-    go true p false q = let z : Broken ≡ Count w = rw (p, q, stepLined) at e in let y : _≡_ {A = ℕ} 0 1 = cc in absurd (omega arith)
-    go false p b q = let z : Count k ≡ Count w = rw (p, stepLined) at e in let y : k ≡ w = cc in omega arith
+    turned : (value : List ℕ) → sideBy number test ar value ≡ (tokensIn ar value >>= (λ ts. termBy number test (termOf ar ts)))
+    turned value = rw (term-tokens ar value) (bind-bind (tokensIn ar value) (termOf ar) (λ t. number unless test t >> says t))
 
-lined-few : (cs : List ℕ) (k v : ℕ) → k ≤ 4 → lined k cs ≡ Count v → v ≤ 4
-unfolding lined
-lined-few [] k v h e = let y : k ≡ v = cc in omega arith
-lined-few (c ∷ cs) k v h e = go (λ w l f. lined-few cs w v l f) (stepLined c k) refl
-  where
-    go : ((w : ℕ) → w ≤ 4 → lined w cs ≡ Count v → v ≤ 4) → (o : Lined) → stepLined c k ≡ o → v ≤ 4
-    go ih (Count w) p = ih w (step-few c k w h p) (rw (p, lined) at e)
-    go ih Broken p = let z : Broken ≡ Count v = rw (p, lined) at e in let y : _≡_ {A = ℕ} 0 1 = cc in absurd (omega arith)
+padded-first : (xs : List ℕ) → getD (padded 64 xs) 0 0 ≡ getD xs 0 0
+unfolding padded
+padded-first [] = refl
+padded-first (x ∷ xs) = refl
 
-side-none : (file ar : List ℕ) (r : Side) (k : ℕ) → r ≡ noSide k → saidSide file ar r ≡ fault k
-unfolding saidSide saidEnds noSide
-side-none file ar r k e = rw e
+meant-is : (ar : List ℕ) → length ar ≤ 64 → (cs : List ℕ) (ts : List Token) (u : Term ℕ) → cs ≡ map byteOf ts → all ts (permitted ar) ≡ true
+    → termOf ar ts ≡ says u → meant ar cs ≡ u
+unfolding meant spoken
+meant-is ar most cs ts u e k h = rw (e, tokens-back ar most ts k, h)
 
-module _ (file key arities : List ℕ) (S at : ℕ) (fits : S ≤ length arities) (most : S ≤ 64) (r : Side) (it : Items) where
-  few : length (take S arities) ≡ S
-  few = lib.Seq.length-take-le S arities fits
+-- The first n tokens are one term: it is spelt by them, and the line says it where the test is passed.
+record OneTerm (file ar : List ℕ) (R : Row) (c : Cursor) (tokens : List ℕ) (n : ℕ) (d : Cursor) : Type 0 where
+  listed : all (preorder (meant ar (take n tokens))) (permitted ar) ≡ true
+  first : getD tokens 0 0 ≡ getD (sideOf (meant ar (take n tokens))) 0 0
+  whole : WholeTokens file ar tokens n d
+  judged : (number : ℕ) (test : Term ℕ → Bool) → lineBy file ar R c number test
+      ≡ answered file (c .line) d (number unless test (meant ar (take n tokens)) >> says (meant ar (take n tokens)))
 
-  pub left-refused : (k q : ℕ) → r ≡ noSide k → k ≡ refusalIn (it .answer) → it ≡ itemsOf (checked (fewCheck 24) (entryLine 1 key (S + 3) (S + 3) false file at)) → it .answer ≡ Refused q
-      → saidSide file (take S arities) r ≡ keyed key (leftSide (take S arities)) (drop at file)
-  left-refused k q e f h g =
-      side-none file _ r k e ∙ ap fault f
-      ∙ sym (token-refused file key arities S at few most (leftOf (take S arities)) it q h g)
-      ∙ keyed-same key _ _ (left-tokens (take S arities)) (drop at file)
+module _ {file arities : List ℕ} {S : ℕ} {R : Row} {c : Cursor} {it : Items} (l : TermLine file arities S R c it) where
+  pub few-symbols : length (take S arities) ≤ 64
+  few-symbols = omega (arith, l .few, l .most)
 
-  pub right-refused : (l : Term ℕ) (k q : ℕ) → r ≡ noSide k → k ≡ refusalIn (it .answer) → it ≡ itemsOf (checked (fewCheck 24) (entryLine 1 key (S + 3) (S + 3) false file at)) → it .answer ≡ Refused q
-      → saidSide file (take S arities) r ≡ keyed key (rightSide (take S arities) l) (drop at file)
-  right-refused l k q e f h g =
-      side-none file _ r k e ∙ ap fault f
-      ∙ sym (token-refused file key arities S at few most (rightOf (take S arities) l) it q h g)
-      ∙ keyed-same key _ _ (λ value. right-tokens (take S arities) value l) (drop at file)
+  refused-line : (r : ℕ) → it .answer ≡ Refused r → (number : ℕ) (test : Term ℕ → Bool) → lineBy file (take S arities) R c number test ≡ refused (refusalIn (it .answer)) (c .line)
+  refused-line r e number test = by-tokens file (take S arities) R c number test ∙ token-refused file arities S R c it l _ r e
 
-  module _ (n : ℕ) (d : Cursor) (t : TokenLine file key arities S at it n d) where
-    left-is : keyed key (leftSide (take S arities)) (drop at file) ≡ found (drop (d .at) file) (leftOf (take S arities) (t .ts))
-    left-is = sym (keyed-same key _ _ (left-tokens (take S arities)) (drop at file)) ∙ token-said file key arities S at few most (leftOf (take S arities)) it n d t
+  module _ {n : ℕ} {a : Bool} {d : Cursor} (e : it .answer ≡ Got n a d) where
+    t : TokenLine file (take S arities) (R .key) c it n d
+    t = token-line file arities S R c it l n a d e
 
-    right-is : (l : Term ℕ) → keyed key (rightSide (take S arities) l) (drop at file) ≡ found (drop (d .at) file) (rightOf (take S arities) l (t .ts))
-    right-is l = sym (keyed-same key _ _ (λ value. right-tokens (take S arities) value l) (drop at file)) ∙ token-said file key arities S at few most (rightOf (take S arities) l) it n d t
+    pub few-tokens : n ≤ 24
+    few-tokens = t .few
 
-    pub left-eight : r ≡ noSide 8 → isOne (openTerms arities (take n (it .items))) ≡ false → saidSide file (take S arities) r ≡ keyed key (leftSide (take S arities)) (drop at file)
-    unfolding leftOf found _>>=_
-    left-eight e o =
-        let z = not-term arities S few (t .ts) (t .listed) (ap (λ cs. isOne (openTerms arities cs)) (sym (t .are)) ∙ o) in
-        side-none file _ r 8 e ∙ sym (left-is ∙ rw z)
+    term-read : (number : ℕ) (test : Term ℕ → Bool) (j : Checked (Term ℕ)) → termOf (take S arities) (t .ts) ≡ j
+        → lineBy file (take S arities) R c number test ≡ answered file (c .line) d (termBy number test j)
+    term-read number test j h = by-tokens file (take S arities) R c number test ∙ t .said _ ∙ ap (λ k. answered file (c .line) d (termBy number test k)) h
 
-    pub right-eight : (l : Term ℕ) → r ≡ noSide 8 → isOne (openTerms arities (take n (it .items))) ≡ false → saidSide file (take S arities) r ≡ keyed key (rightSide (take S arities) l) (drop at file)
-    unfolding rightOf found _>>=_
-    right-eight l e o =
-        let z = not-term arities S few (t .ts) (t .listed) (ap (λ cs. isOne (openTerms arities cs)) (sym (t .are)) ∙ o) in
-        side-none file _ r 8 e ∙ sym (right-is l ∙ rw z)
+    not-one : isOne (openTerms arities (take n (it .items))) ≡ false → (number : ℕ) (test : Term ℕ → Bool) → lineBy file (take S arities) R c number test ≡ refused 8 (c .line)
+    unfolding answered termBy _>>=_
+    not-one o number test =
+        term-read number test (fault 8) (not-term arities S (l .few) (l .most) (t .ts) (t .listed) (ap (λ cs. isOne (openTerms arities cs)) (sym (t .are)) ∙ o))
+
+    one : isOne (openTerms arities (take n (it .items))) ≡ true → OneTerm file (take S arities) R c (it .items) n d
+    unfolding sideOf termBy _>>=_
+    one o =
+        let (u, h) = one-term arities S (l .few) (l .most) (t .ts) (t .listed) (ap (λ cs. isOne (openTerms arities cs)) (sym (t .are)) ∙ o) in
+        let is : meant (take S arities) (take n (it .items)) ≡ u = meant-is (take S arities) few-symbols _ (t .ts) u (t .are) (t .listed) h in
+        let order : preorder (meant (take S arities) (take n (it .items))) ≡ t .ts = ap preorder is ∙ preorder-exact (take S arities) (t .ts) u .0 h .0 in
+        let spelt : take n (it .items) ≡ sideOf (meant (take S arities) (take n (it .items))) = t .are ∙ ap (map byteOf) (sym order) in
+        record {
+          listed = ap (λ us. all us (permitted (take S arities))) order ∙ t .listed;
+          first = ap (λ (xs : List ℕ). getD xs 0 0) (t .behind) ∙ padded-first _ ∙ ap (λ (xs : List ℕ). getD xs 0 0) spelt;
+          whole = record { are = spelt; many = t .many ∙ ap length (sym order); few = t .few; low = t .low; behind = t .behind; placed = t .placed };
+          judged = λ number test. term-read number test (says (meant (take S arities) (take n (it .items)))) (h ∙ ap says (sym is));
+        }
+
+module _ {file ar : List ℕ} {R : Row} {c : Cursor} {tokens : List ℕ} {n : ℕ} {d : Cursor} (g : OneTerm file ar R c tokens n d) (number : ℕ) (test : Term ℕ → Bool) where
+  failed : test (meant ar (take n tokens)) ≡ false → lineBy file ar R c number test ≡ refused number (c .line)
+  unfolding answered _unless_ _>>_
+  failed h = g .judged number test ∙ rw h
+
+  passed : test (meant ar (take n tokens)) ≡ true → lineBy file ar R c number test ≡ gave (meant ar (take n tokens)) (d .line) (drop (d .at) file)
+  unfolding answered _unless_ _>>_
+  passed h = g .judged number test ∙ rw h
+
+-- What is handed over says it.
+module _ (file ar : List ℕ) (c : Cursor) (s : Side) (j : Reading (Term ℕ)) where
+  none-said : (k : ℕ) → s ≡ noSide k → j ≡ refused k (c .line) → saidSide file ar (c .line) s ≡ j
+  unfolding saidSide saidEnds noSide
+  none-said k e h = rw (e, h)
+
+  some-said : (tokens : List ℕ) (n v : ℕ) (d : Cursor) → s ≡ record { answer = GotSide n v d; tokens = tokens }
+      → j ≡ gave (meant ar (take n tokens)) (d .line) (drop (d .at) file) → saidSide file ar (c .line) s ≡ j
+  unfolding saidSide saidEnds
+  some-said tokens n v d e h = rw (e, h)
+
+-- A left side.
+leftTest : Term ℕ → Bool
+leftTest t = not (bare t) && same (variables t) (countFrom 0 (length (variables t)))
+
+module _ {file arities : List ℕ} {S : ℕ} {c : Cursor} {it : Items} (l : TermLine file arities S (lineRow 12) c it) (s : Side) where
+  left-none : (k : ℕ) → s ≡ noSide k → lineBy file (take S arities) (lineRow 12) c 9 leftTest ≡ refused k (c .line) → LeftLine file (take S arities) c s
+  unfolding lineBy sideBy leftTest leftSide CountedSide CountedEnds WholeSide WholeEnds noSide
+  left-none k e h = record { said = none-said file (take S arities) c s _ k e h; counted = rw e tt; whole = rw e refl }
+
+  pub left-refused : (k r : ℕ) → it .answer ≡ Refused r → s ≡ noSide k → k ≡ refusalIn (it .answer) → LeftLine file (take S arities) c s
+  left-refused k r e f h = left-none k f (refused-line l r e 9 leftTest ∙ ap (λ n. refused n (c .line)) (sym h))
+
+  module _ {n : ℕ} {a : Bool} {d : Cursor} (e : it .answer ≡ Got n a d) where
+    pub left-eight : isOne (openTerms arities (take n (it .items))) ≡ false → s ≡ noSide 8 → LeftLine file (take S arities) c s
+    left-eight o f = left-none 8 f (not-one l e o 9 leftTest)
 
     module _ (o : isOne (openTerms arities (take n (it .items))) ≡ true) where
-      whole : (u : Term ℕ) × (termOf (take S arities) (t .ts) ≡ says u)
-      whole = one-term arities S few (t .ts) (t .listed) (ap (λ cs. isOne (openTerms arities cs)) (sym (t .are)) ∙ o)
+      starts : bare (meant (take S arities) (take n (it .items))) ≡ leb 64 (getD (it .items) 0 0)
+      starts = bare-first (take S arities) (few-symbols l) _ (one l e o .listed) ∙ ap (leb 64) (sym (one l e o .first))
 
-      order : preorder (whole .0) ≡ t .ts
-      order = preorder-exact (take S arities) (t .ts) (whole .0) .0 (whole .1) .0
+      pub left-bare : 64 ≤ getD (it .items) 0 0 → s ≡ noSide 9 → LeftLine file (take S arities) c s
+      unfolding leftTest
+      left-bare h f = left-none 9 f (failed (one l e o) 9 leftTest (rw (starts, le-leb 64 (getD (it .items) 0 0) h)))
 
-      listed : all (preorder (whole .0)) (permitted (take S arities)) ≡ true
-      listed = rw order (t .listed)
+      module _ (h : getD (it .items) 0 0 < 64) where
+        pub left-broken : lined 0 (take n (it .items)) ≡ Broken → s ≡ noSide 9 → LeftLine file (take S arities) c s
+        unfolding leftTest
+        left-broken w f =
+            let q = out-of-order (take S arities) (few-symbols l) _ (one l e o .listed) (ap (lined 0) (sym (one l e o .whole .are)) ∙ w) in
+            left-none 9 f (failed (one l e o) 9 leftTest (rw (starts, lt-leb 64 (getD (it .items) 0 0) h, q)))
 
-      left-fault : (not (bare (whole .0)) && same (variables (whole .0)) (countFrom 0 (length (variables (whole .0))))) ≡ false → r ≡ noSide 9 → saidSide file (take S arities) r ≡ keyed key (leftSide (take S arities)) (drop at file)
-      unfolding leftOf found _>>=_ _>>_ _unless_
-      left-fault b e = side-none file _ r 9 e ∙ sym (left-is ∙ rw (whole .1) (rw b))
+        pub left-good : (v : ℕ) → lined 0 (take n (it .items)) ≡ Count v → s ≡ record { answer = GotSide n v d; tokens = it .items } → LeftLine file (take S arities) c s
+        unfolding lineBy sideBy leftTest leftSide CountedSide CountedEnds WholeSide WholeEnds
+        left-good v w f =
+            let (q, r, b) = in-order (take S arities) (few-symbols l) _ (one l e o .listed) v (ap (lined 0) (sym (one l e o .whole .are)) ∙ w) in
+            record {
+              said = some-said file (take S arities) c s _ (it .items) n v d f (passed (one l e o) 9 leftTest (rw (starts, lt-leb 64 (getD (it .items) 0 0) h, q)));
+              counted = rw f (r, b);
+              whole = rw f (one l e o .whole);
+            }
 
-      pub left-bare : r ≡ noSide 9 → getD (it .items) 0 0 < 4 → saidSide file (take S arities) r ≡ keyed key (leftSide (take S arities)) (drop at file)
-      left-bare e h =
-          let b = bare-first (take S arities) (whole .0) listed (rw order (rw (t .first) at h)) in
-          left-fault (rw b) e
+-- A right side, behind any left side of v variables.
+rightTest : Term ℕ → Term ℕ → Bool
+rightTest l t = all (variables t) (λ x. any (variables l) (eqb x))
 
-      pub left-broken : r ≡ noSide 9 → 4 ≤ getD (it .items) 0 0 → lined 0 (take n (it .items)) ≡ Broken → saidSide file (take S arities) r ≡ keyed key (leftSide (take S arities)) (drop at file)
-      left-broken e h w =
-          let b = not-bare (take S arities) (whole .0) listed (rw order (rw (t .first) at h)) in
-          let c = out-of-order (take S arities) (whole .0) listed (rw order (ap (lined 0) (sym (t .are)) ∙ w)) in
-          left-fault (rw (b, c)) e
+module _ {file arities : List ℕ} {S : ℕ} {c : Cursor} {it : Items} (l : TermLine file arities S (lineRow 13) c it) (s : Side) (v : ℕ) where
+  right-none : (k : ℕ) → s ≡ noSide k → ((u : Term ℕ) → variables u ≡ countFrom 0 v → lineBy file (take S arities) (lineRow 13) c 10 (rightTest u) ≡ refused k (c .line))
+      → RightLine file (take S arities) c v s
+  unfolding lineBy sideBy rightTest rightSide CarriedEnds WholeSide WholeEnds noSide
+  right-none k e h = record { said = λ u g. none-said file (take S arities) c s _ k e (h u g); carried = rw e tt; whole = rw e refl }
 
-      meaning : meant (take S arities) (take n (it .items)) ≡ whole .0
-      unfolding meant spoken
-      meaning = rw (t .are, decode (take S arities) (t .ts) (t .listed), whole .1)
+  pub right-refused : (k r : ℕ) → it .answer ≡ Refused r → s ≡ noSide k → k ≡ refusalIn (it .answer) → RightLine file (take S arities) c v s
+  right-refused k r e f h = right-none k f (λ u g. refused-line l r e 10 (rightTest u) ∙ ap (λ n. refused n (c .line)) (sym h))
 
-      -- a left side with v variables in order
-      left-good : (v : ℕ) → r ≡ record { answer = GotSide n v d; tokens = it .items } → 4 ≤ getD (it .items) 0 0 → lined 0 (take n (it .items)) ≡ Count v → saidSide file (take S arities) r ≡ keyed key (leftSide (take S arities)) (drop at file)
-      unfolding saidSide saidEnds leftOf found _>>=_ _>>_ _unless_
-      left-good v e h w =
-          let b = not-bare (take S arities) (whole .0) listed (rw order (rw (t .first) at h)) in
-          let c = in-order (take S arities) (whole .0) listed v (rw order (ap (lined 0) (sym (t .are)) ∙ w)) in
-          rw (e, meaning) (sym (left-is ∙ rw (whole .1) (rw (b, c .0))))
+  module _ {n : ℕ} {a : Bool} {d : Cursor} (e : it .answer ≡ Got n a d) where
+    pub right-eight : isOne (openTerms arities (take n (it .items))) ≡ false → s ≡ noSide 8 → RightLine file (take S arities) c v s
+    right-eight o f = right-none 8 f (λ u g. not-one l e o 10 (rightTest u))
 
-      left-counted : (v : ℕ) → r ≡ record { answer = GotSide n v d; tokens = it .items } → lined 0 (take n (it .items)) ≡ Count v → CountedSide (take S arities) r
-      unfolding CountedSide CountedEnds
-      left-counted v e w =
-          let c = in-order (take S arities) (whole .0) listed v (rw order (ap (lined 0) (sym (t .are)) ∙ w)) in
-          rw (e, meaning) (c .1, lined-few (take n (it .items)) 0 v (omega arith) w)
+    module _ (o : isOne (openTerms arities (take n (it .items))) ≡ true) where
+      known : (u : Term ℕ) → variables u ≡ countFrom 0 v → rightTest u (meant (take S arities) (take n (it .items))) ≡ noStrange v (take n (it .items))
+      unfolding rightTest
+      known u g = right-known (take S arities) (few-symbols l) _ (one l e o .listed) u v g ∙ ap (noStrange v) (sym (one l e o .whole .are))
 
-      side-whole : (v : ℕ) → r ≡ record { answer = GotSide n v d; tokens = it .items } → WholeSide file (take S arities) r
-      unfolding WholeSide WholeEnds
-      side-whole v e =
-          let p : preorder (meant (take S arities) (take n (it .items))) ≡ t .ts = ap preorder meaning ∙ order in
-          rw e (record { are = t .are ∙ ap codes (sym p); many = t .many ∙ ap length (sym p); few = t .few; low = t .low; behind = t .behind; placed = t .placed })
+      pub right-strange : noStrange v (take n (it .items)) ≡ false → s ≡ noSide 10 → RightLine file (take S arities) c v s
+      right-strange w f = right-none 10 f (λ u g. failed (one l e o) 10 (rightTest u) (known u g ∙ w))
 
-      pub right-strange : (l : Term ℕ) (v : ℕ) → variables l ≡ countFrom 0 v → r ≡ noSide 10 → noStrange v (take n (it .items)) ≡ false → saidSide file (take S arities) r ≡ keyed key (rightSide (take S arities) l) (drop at file)
-      unfolding rightOf found _>>=_ _>>_ _unless_
-      right-strange l v k e w =
-          let q : noStrange v (codes (preorder (whole .0))) ≡ false = rw order (ap (noStrange v) (sym (t .are)) ∙ w) in
-          let c = right-known (take S arities) l (whole .0) v listed k ∙ q in
-          side-none file _ r 10 e ∙ sym (right-is l ∙ rw (whole .1) (rw c))
-
-      right-good : (l : Term ℕ) (v : ℕ) → variables l ≡ countFrom 0 v → r ≡ record { answer = GotSide n v d; tokens = it .items } → noStrange v (take n (it .items)) ≡ true → saidSide file (take S arities) r ≡ keyed key (rightSide (take S arities) l) (drop at file)
-      unfolding saidSide saidEnds rightOf found _>>=_ _>>_ _unless_
-      right-good l v k e w =
-          let q : noStrange v (codes (preorder (whole .0))) ≡ true = rw order (ap (noStrange v) (sym (t .are)) ∙ w) in
-          let c = right-known (take S arities) l (whole .0) v listed k ∙ q in
-          rw (e, meaning) (sym (right-is l ∙ rw (whole .1) (rw c)))
-
-      pub whole-left : (v : ℕ) → r ≡ record { answer = GotSide n v d; tokens = it .items } → 4 ≤ getD (it .items) 0 0 → lined 0 (take n (it .items)) ≡ Count v → LeftLine file key (take S arities) at r
-      whole-left v e h w = record { said = left-good v e h w; counted = left-counted v e w; whole = side-whole v e }
-
-      pub whole-right : (v : ℕ) → r ≡ record { answer = GotSide n v d; tokens = it .items } → noStrange v (take n (it .items)) ≡ true → RightLine file key (take S arities) at v r
-      unfolding CarriedEnds
-      whole-right v e w = record { said = λ l k. right-good l v k e w; carried = rw e refl; whole = side-whole v e }
+      pub right-good : noStrange v (take n (it .items)) ≡ true → s ≡ record { answer = GotSide n v d; tokens = it .items } → RightLine file (take S arities) c v s
+      unfolding lineBy sideBy rightTest rightSide CarriedEnds WholeSide WholeEnds
+      right-good w f =
+          record {
+            said = λ u g. some-said file (take S arities) c s _ (it .items) n v d f (passed (one l e o) 10 (rightTest u) (known u g ∙ w));
+            carried = rw f refl;
+            whole = rw f (one l e o .whole);
+          }

@@ -1,1 +1,2 @@
+-- The sides of rules as the code reads them.
 pub mod Tokens

@@ -3,21 +3,28 @@ ghost use mathlib.Core.Path.{_≡_};
 ghost use Prim.Native.Nat.{ℕ, _+_, _-_, _≤_, _<_};
 ghost use lib.ListN.{length, getD, take};
 ghost use mathlib.Core.Bool.{true, false};
+ghost use Rattle.paper.specs.Limits.{mostSymbols};
+ghost use Rattle.fields.specs.Said.{Placed};
 ghost use Rattle.sides.specs.Tokens.{closes, openTerms, openOf, isOne, stepLined, lined, strange, noStrange, noSide, LeftLine, RightLine};
 use fields::cursor::Cursor;
 use fields::lists::Listed;
+use fields::lists::ROOM;
 use fields::lists::list_refusal;
-use fields::rows::wide;
+use fields::rows::LEFT;
+use fields::rows::RIGHT;
+use sets::index;
+use tables::SYMBOLS;
+use tables::VARIABLE;
 
 // The number of terms that tokens write, or that a token wants more than there are.
 pub enum Open {
-    Terms(u32),
+    Terms(usize),
     Short,
 }
 
 // How many variables came in order, or that one did not.
 pub enum Lined {
-    Count(u32),
+    Count(u8),
     Broken,
 }
 
@@ -25,36 +32,27 @@ pub enum Lined {
 pub enum Ends {
     Got {
         count: usize,
-        variables: u32,
+        variables: u8,
         next: Cursor,
     },
     Refused(u8),
 }
 
-// The same with the codes of its tokens.
+// The same with its tokens.
 pub struct Side {
     pub answer: Ends,
-    pub tokens: [u32; 64],
-}
-
-// A byte as a number.
-fn number(x: u8) -> u32
-    ensures { λ r. ⌜ r ≡ x ⌝ }
-{
-    x as u32
+    pub tokens: [u8; ROOM],
 }
 
 // The token c put before n terms: a symbol takes as many of them as its arity says.
-fn closed(arities: &[u8; 64], c: u32, n: u32) -> Open
-    requires { ⌜ n < 1000 ⌝ }
-    requires { ⌜ c < 68 ⌝ }
+fn closed(arities: &[u8; SYMBOLS], c: u8, n: usize) -> Open
+    requires { ⌜ (n < 64) × (length (now arities) ≡ 64) ⌝ }
     ensures { λ r. ⌜ r ≡ openOf (closes (now (arities .entry)) c n) ⌝ }
 {
-    if c < 4 {
+    if VARIABLE <= c {
         return Open::Terms(n + 1);
     }
-    let s = wide(c - 4);
-    let a = number(arities[s]);
+    let a = index(arities[index(c)]);
     if n < a {
         return Open::Short;
     }
@@ -62,16 +60,15 @@ fn closed(arities: &[u8; 64], c: u32, n: u32) -> Open
 }
 
 // Whether the first `count` tokens are one term in preorder: a pass from the right that counts the terms.
-fn is_one_term(items: [u32; 64], count: usize, arities: &[u8; 64]) -> bool
-    requires { ⌜ count ≤ 64 ⌝ }
-    requires { ⌜ ((k : ℕ) → getD items k 0 < 68) ⌝ }
-    ensures { λ r. ⌜ r ≡ isOne (openTerms (now (arities .entry)) (take count items)) ⌝ }
+fn is_one_term(tokens: [u8; ROOM], count: usize, arities: &[u8; SYMBOLS]) -> bool
+    requires { ⌜ (count ≤ 64) × (length (now arities) ≡ 64) ⌝ }
+    ensures { λ r. ⌜ r ≡ isOne (openTerms (now (arities .entry)) (take count tokens)) ⌝ }
 {
     let mut i = count;
-    let mut n: u32 = 0;
+    let mut n = 0;
     while 0 < i {
         i -= 1;
-        let c = items[i];
+        let c = tokens[i];
         let o = closed(arities, c, n);
         let Open::Terms(m) = o else {
             return false;
@@ -82,28 +79,28 @@ fn is_one_term(items: [u32; 64], count: usize, arities: &[u8; 64]) -> bool
 }
 
 // How many variables came in order, with the token c, where there were v.
-fn next_in_line(c: u32, v: u32) -> Lined
-    requires { ⌜ v < 1000 ⌝ }
+fn next_in_line(c: u8, v: u8) -> Lined
+    requires { ⌜ v < 64 ⌝ }
     ensures { λ r. ⌜ r ≡ stepLined c v ⌝ }
 {
-    if c < 4 {
-        if c == v {
-            return Lined::Count(v + 1);
-        }
-        return Lined::Broken;
+    if c < VARIABLE {
+        return Lined::Count(v);
     }
-    Lined::Count(v)
+    if c == VARIABLE + v {
+        return Lined::Count(v + 1);
+    }
+    Lined::Broken
 }
 
 // Whether the variables of the first `count` tokens are x0, x1, .. in this order, and how many.
-fn line_up(items: [u32; 64], count: usize) -> Lined
+fn line_up(tokens: [u8; ROOM], count: usize) -> Lined
     requires { ⌜ count ≤ 64 ⌝ }
-    ensures { λ r. ⌜ r ≡ lined 0 (take count items) ⌝ }
+    ensures { λ r. ⌜ r ≡ lined 0 (take count tokens) ⌝ }
 {
-    let mut v: u32 = 0;
+    let mut v: u8 = 0;
     let mut i = 0;
     while i < count {
-        let c = items[i];
+        let c = tokens[i];
         let o = next_in_line(c, v);
         let Lined::Count(w) = o else {
             return Lined::Broken;
@@ -115,23 +112,23 @@ fn line_up(items: [u32; 64], count: usize) -> Lined
 }
 
 // Whether the token c is a variable that is not below v.
-fn is_strange(v: u32, c: u32) -> bool
+fn is_strange(v: u8, c: u8) -> bool
     ensures { λ r. ⌜ r ≡ strange v c ⌝ }
 {
-    if c < 4 {
-        return v <= c;
+    if c < VARIABLE {
+        return false;
     }
-    false
+    v <= c - VARIABLE
 }
 
 // Whether every variable of the first `count` tokens is below v.
-fn all_known(items: [u32; 64], count: usize, v: u32) -> bool
+fn all_known(tokens: [u8; ROOM], count: usize, v: u8) -> bool
     requires { ⌜ count ≤ 64 ⌝ }
-    ensures { λ r. ⌜ r ≡ noStrange v (take count items) ⌝ }
+    ensures { λ r. ⌜ r ≡ noStrange v (take count tokens) ⌝ }
 {
     let mut i = 0;
     while i < count {
-        let c = items[i];
+        let c = tokens[i];
         if is_strange(v, c) {
             return false;
         }
@@ -146,17 +143,17 @@ fn no_side(refusal: u8) -> Side
 {
     Side {
         answer: Ends::Refused(refusal),
-        tokens: [0u32; 64],
+        tokens: [0u8; ROOM],
     }
 }
 
 // A left side.
-pub fn left_line(c: Cursor, file: &[u8], key: &[u8], arities: &[u8; 64], symbols: u32) -> Side
-    requires { ⌜ symbols ≤ 64 ⌝ }
-    requires { ⌜ symbols ≤ length (now arities) ⌝ }
-    ensures { λ r. ⌜ LeftLine (now (file .entry)) (now (key .entry)) (take symbols (now (arities .entry))) (c .at) r ⌝ }
+pub fn left_line(c: Cursor, file: &[u8], arities: &[u8; SYMBOLS], symbols: u32) -> Side
+    requires { ⌜ (symbols ≤ mostSymbols) × (length (now arities) ≡ mostSymbols) ⌝ }
+    requires { ⌜ Placed (now file) c ⌝ }
+    ensures { λ r. ⌜ LeftLine (now (file .entry)) (take symbols (now (arities .entry))) c r ⌝ }
 {
-    let it = c.term_line(file, key, symbols + 3);
+    let it = c.term_line(file, LEFT, symbols);
     let answer = it.answer;
     let Listed::Got {
         count,
@@ -166,12 +163,12 @@ pub fn left_line(c: Cursor, file: &[u8], key: &[u8], arities: &[u8; 64], symbols
     else {
         return no_side(list_refusal(answer));
     };
-    let items = it.items;
-    if is_one_term(items, count, arities) {
-        if items[0] < 4 {
+    let tokens = it.items;
+    if is_one_term(tokens, count, arities) {
+        if VARIABLE <= tokens[0] {
             return no_side(9);
         }
-        let o = line_up(items, count);
+        let o = line_up(tokens, count);
         let Lined::Count(variables) = o else {
             return no_side(9);
         };
@@ -181,26 +178,19 @@ pub fn left_line(c: Cursor, file: &[u8], key: &[u8], arities: &[u8; 64], symbols
                 variables,
                 next,
             },
-            tokens: items,
+            tokens,
         };
     }
     no_side(8)
 }
 
 // A right side, where the left side has v variables.
-pub fn right_line(
-    c: Cursor,
-    file: &[u8],
-    key: &[u8],
-    arities: &[u8; 64],
-    symbols: u32,
-    v: u32,
-) -> Side
-    requires { ⌜ symbols ≤ 64 ⌝ }
-    requires { ⌜ symbols ≤ length (now arities) ⌝ }
-    ensures { λ r. ⌜ RightLine (now (file .entry)) (now (key .entry)) (take symbols (now (arities .entry))) (c .at) v r ⌝ }
+pub fn right_line(c: Cursor, file: &[u8], arities: &[u8; SYMBOLS], symbols: u32, v: u8) -> Side
+    requires { ⌜ (symbols ≤ mostSymbols) × (length (now arities) ≡ mostSymbols) ⌝ }
+    requires { ⌜ Placed (now file) c ⌝ }
+    ensures { λ r. ⌜ RightLine (now (file .entry)) (take symbols (now (arities .entry))) c v r ⌝ }
 {
-    let it = c.term_line(file, key, symbols + 3);
+    let it = c.term_line(file, RIGHT, symbols);
     let answer = it.answer;
     let Listed::Got {
         count,
@@ -210,16 +200,16 @@ pub fn right_line(
     else {
         return no_side(list_refusal(answer));
     };
-    let items = it.items;
-    if is_one_term(items, count, arities) {
-        if all_known(items, count, v) {
+    let tokens = it.items;
+    if is_one_term(tokens, count, arities) {
+        if all_known(tokens, count, v) {
             return Side {
                 answer: Ends::Got {
                     count,
                     variables: v,
                     next,
                 },
-                tokens: items,
+                tokens,
             };
         }
         return no_side(10);

@@ -14,7 +14,8 @@ unfolding members
 members-sound mask n zero m = absurd (List·Memᴰ·not-nil m)
 members-sound mask n (suc k) {q} m = go (mem mask n) refl (λ i. let (l, h, e) = members-sound mask (suc n) k i in (omega arith, omega arith, e)) m
   where
-    go : (b : Bool) → mem mask n ≡ b → (List·Memᴰ q (members mask (suc n) k) → (n ≤ q) × (q < n + suc k) × (mem mask q ≡ true)) → List·Memᴰ q (cond b (n ∷ members mask (suc n) k) (members mask (suc n) k)) → (n ≤ q) × (q < n + suc k) × (mem mask q ≡ true)
+    go : (b : Bool) → mem mask n ≡ b → (List·Memᴰ q (members mask (suc n) k) → (n ≤ q) × (q < n + suc k) × (mem mask q ≡ true))
+        → List·Memᴰ q (cond b (n ∷ members mask (suc n) k) (members mask (suc n) k)) → (n ≤ q) × (q < n + suc k) × (mem mask q ≡ true)
     go true e later (List·Memᴰ·head same) = (omega arith, omega arith, rw same e)
     go true e later (List·Memᴰ·tail i) = later i
     go false e later i = later i

@@ -39,7 +39,9 @@ pub moves-take : (arities rows : List ℕ) (n : ℕ) → n * 5 ≤ length rows �
 unfolding movesOf
 moves-take arities rows n h =
     let count : length (take (n * 5) rows) / 5 ≡ n = rw (length-take-le (n * 5) rows h) (omega arith) in
-    rw count (map-same (moveAt arities (take (n * 5) rows)) (moveAt arities rows) 0 n (λ i l u. same-row arities (take (n * 5) rows) rows i (λ j k. getD-take (n * 5) rows (i * 5 + j) 0 (omega arith))))
+    rw count
+    (map-same (moveAt arities (take (n * 5) rows)) (moveAt arities rows) 0 n
+    (λ i l u. same-row arities (take (n * 5) rows) rows i (λ j k. getD-take (n * 5) rows (i * 5 + j) 0 (omega arith))))
 
 -- There are as many transitions as rows.
 pub moves-count : (arities rows : List ℕ) (n : ℕ) → length (movesOf arities rows n) ≡ n

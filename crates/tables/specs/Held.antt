@@ -6,7 +6,7 @@ use lib.Dec.{ltb}
 use lib.ListN.{getD, take, drop}
 use Rattle.theory.specs.Lists.{countFrom}
 use Rattle.theory.specs.Term.{Term, var}
-use Rattle.theory.specs.Preorder.{Token, symbol, variable}
+use Rattle.theory.specs.Preorder.{Token, symbol, variable, preorder}
 use Rattle.theory.specs.Rewriting.{Rule}
 use Rattle.theory.specs.Automaton.{Automaton, Transition, _of_gives_}
 use Rattle.paper.specs.Checked.{Checked, fault, says}
@@ -20,7 +20,10 @@ use Rattle.tables.specs.declared.Merging.{Merging}
 
 -- Transition i: as many arguments as its symbol's arity.
 unfoldable pub moveAt : (arities rows : List ℕ) → ℕ → Transition
-moveAt arities rows i = getD rows (i * 5) 0 of take (getD arities (getD rows (i * 5) 0) 0) (getD rows (i * 5 + 1) 0 ∷ (getD rows (i * 5 + 2) 0 ∷ (getD rows (i * 5 + 3) 0 ∷ []))) gives getD rows (i * 5 + 4) 0
+moveAt arities rows i =
+    getD rows (i * 5) 0
+    of take (getD arities (getD rows (i * 5) 0) 0) (getD rows (i * 5 + 1) 0 ∷ (getD rows (i * 5 + 2) 0 ∷ (getD rows (i * 5 + 3) 0 ∷ [])))
+    gives getD rows (i * 5 + 4) 0
 
 -- The first n transitions.
 unfoldable pub movesOf : (arities rows : List ℕ) → ℕ → List Transition
@@ -38,6 +41,15 @@ automatonOf arities t = record { states = t .states; transitions = movesOf ariti
 -- The token of a byte.
 unfoldable pub tokenOf : ℕ → Token
 tokenOf b = cond (ltb b 64) (symbol b) (variable (b - 64))
+
+-- The byte of a token.
+unfoldable pub byteOf : Token → ℕ
+byteOf (symbol f) = f
+byteOf (variable x) = 64 + x
+
+-- The bytes of a side.
+unfoldable pub sideOf : Term ℕ → List ℕ
+sideOf t = map byteOf (preorder t)
 
 -- The term that was said; where none was, any term.
 unfoldable pub spoken : Checked (Term ℕ) → Term ℕ
@@ -66,4 +78,11 @@ mergeOf t m = take (t .initial .states) (m .merge)
 
 -- The certificate that the tables and the merging mean.
 unfoldable pub held : Tables → Merging → Certificate
-held t m = record { budget = t .budget; arities = aritiesOf t; A = automatonOf (aritiesOf t) (t .initial); B = automatonOf (aritiesOf t) (t .bad); rules = rulesOf (aritiesOf t) (t .rules); merge = mergeOf t m }
+held t m = record {
+  budget = t .budget;
+  arities = aritiesOf t;
+  A = automatonOf (aritiesOf t) (t .initial);
+  B = automatonOf (aritiesOf t) (t .bad);
+  rules = rulesOf (aritiesOf t) (t .rules);
+  merge = mergeOf t m;
+}

@@ -1,2 +1,3 @@
+-- The definitions that the contracts over the tables cite.
 pub mod Held
 pub mod Sound

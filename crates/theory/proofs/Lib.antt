@@ -1,3 +1,4 @@
+-- The laws of these definitions: what rewriting and merging keep, that the tests are exact, and safety.
 pub mod Bools
 pub mod Nth
 pub mod Count

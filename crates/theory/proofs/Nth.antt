@@ -1,10 +1,15 @@
--- The elements of a list by their numbers: members, splits and first parts.
+-- The elements of a list: what holds of each, and the elements by their numbers: members, splits and first parts.
 use mathlib.Core.Path.{_≡_, refl, sym, ap, _∙_}
 use mathlib.Core.List.{List, [], _∷_, _++_, List·Memᴰ, List·Memᴰ·head, List·Memᴰ·tail, List·Memᴰ·not-nil}
 use Prim.Native.Nat.{ℕ, zero, suc, _<_}
 use native.Mathlib.Omega.{arith}
 use lib.ListN.{length, take}
 use Rattle.theory.specs.Lists.{Nth}
+
+-- What holds of the first and of each behind it holds of each.
+pub all-cons : {Y : Type 0} {P : Y → Type 0} {x : Y} {xs : List Y} → P x → ((y : Y) → List·Memᴰ y xs → P y) → (y : Y) → List·Memᴰ y (x ∷ xs) → P y
+all-cons p ps y (List·Memᴰ·head e) = rw e p
+all-cons p ps y (List·Memᴰ·tail m) = ps y m
 
 pub nth-mem : {Y : Type 0} (ys : List Y) (i : ℕ) {y : Y} → Nth ys i y → List·Memᴰ y ys
 unfolding Nth

@@ -38,7 +38,8 @@ module _ (M : Automaton) (R : List Rule)
     (usable : (t : Tree) (q : ℕ) → Reaches M t q → Substitutable M q)
     (acritical : Acritical M R) where
   -- Without a critical pair the right side gives what the left side gives: membership is decided.
-  carried : {q : ℕ} (rule : Rule) → List·Memᴰ rule R → (σ : List ℕ) → length σ ≡ variableCount rule → ((c : ℕ) → List·Memᴰ c σ → Substitutable M c) → Gives M (entry σ) (rule .left) q → Gives M (entry σ) (rule .right) q
+  carried : {q : ℕ} (rule : Rule) → List·Memᴰ rule R → (σ : List ℕ) → length σ ≡ variableCount rule → ((c : ℕ) → List·Memᴰ c σ → Substitutable M c)
+      → Gives M (entry σ) (rule .left) q → Gives M (entry σ) (rule .right) q
   unfolding Acritical
   carried {q} rule m σ complete allowed left = elim (gives-decided M (entry σ) (rule .right) q) [
     | yes right ↦ right
@@ -88,13 +89,13 @@ pub closed : (M : Automaton) (R : List Rule) → WellShapedRules R → InRange M
 unfolding Substitutable
 closed M R shaped range = kept-on M R shaped (λ t q. reached-below range)
 
--- An acritical merging is complete (document 002, Definition 3): what A's trees are rewritten to, the merged automaton accepts.
+-- An acritical merging is complete (Boichut, Hugot and Boiret, Definition 3): what A's trees are rewritten to, the merged automaton accepts.
 pub complete : (merge : List ℕ) (A : Automaton) (R : List Rule) → WellShapedRules R → Acritical (merged merge A) R → (s t : Tree) → Accepts A s → Rewrites R s t → Accepts (merged merge A) t
 unfolding Accepts merged
 complete merge A R shaped acritical s t (q, d, f) steps =
     (classOf merge q, closed (merged merge A) R shaped (merged-in-range merge A) acritical steps (reaches-class merge A d), Memᴰ·map (classOf merge) f)
 
--- Suitable is what document 002 calls so: no tree is accepted by both.
+-- Suitable is what Boichut, Hugot and Boiret call so: no tree is accepted by both.
 pub suitable-disjoint : (M B : Automaton) → Suitable M B ↔ ((t : Tree) → Accepts M t → Accepts B t → ⊥)
 unfolding Suitable Share Accepts
 suitable-disjoint M B = (λ s t (q, d, f) (p, e, g). s q p f g (t, d, e), λ h q p f g (t, d, e). h t (q, d, f) (p, e, g))

@@ -50,16 +50,16 @@ abbrev Unsafe : Automaton → List Rule → Automaton → Type 0
 Unsafe A R B = Safe A R B → ⊥
 
 -- The tree has this number.
-abbrev Numbered : ℕ → Tree → Type 0
-Numbered q t = value (only q) (λ x. absurd x) t q ≡ true
+abbrev HasNumber : ℕ → Tree → Type 0
+HasNumber q t = value (only q) (λ x. absurd x) t q ≡ true
 
-accepted : (q : ℕ) (t : Tree) → Numbered q t → Accepts (only q) t
+accepts-only : (q : ℕ) (t : Tree) → HasNumber q t → Accepts (only q) t
 unfolding Accepts
-accepted q t e = (q, value-exact (only q) (λ x. absurd x) t q .0 e, List·Memᴰ·head refl)
+accepts-only q t e = (q, value-exact (only q) (λ x. absurd x) t q .0 e, List·Memᴰ·head refl)
 
-rewritten : {R : List Rule} (q p : ℕ) (s t : Tree) → Numbered q s → Numbered p t → Rewrites R s t → Unsafe (only q) R (only p)
+rewritten : {R : List Rule} (q p : ℕ) (s t : Tree) → HasNumber q s → HasNumber p t → Rewrites R s t → Unsafe (only q) R (only p)
 unfolding Safe
-rewritten q p s t d e steps safe = safe s t (accepted q s d) steps (accepted p t e)
+rewritten q p s t d e steps safe = safe s t (accepts-only q s d) steps (accepts-only p t e)
 
 -- No step: both accept a.
 pub no-step : Unsafe (only 0) [] (only 0)

@@ -13,38 +13,38 @@ module _ {X : Type 0} (A : Automaton) (σ : X → ℕ) where
   mutual
     unfolding value
 
-    complete : {t : Term X} {q : ℕ} → Gives A σ t q → value A σ t q ≡ true
-    complete (assigned e) = equal-iff _ _ .1 e
-    complete (applied {f = f} {q = q} m ds) = any-complete _ m (match-iff f f q q _ .1 (refl, refl, completeAll ds))
+    value-complete : {t : Term X} {q : ℕ} → Gives A σ t q → value A σ t q ≡ true
+    value-complete (assigned e) = equal-iff _ _ .1 e
+    value-complete (applied {f = f} {q = q} m ds) = any-complete _ m (match-iff f f q q _ .1 (refl, refl, values-complete ds))
 
-    completeAll : {ts : Terms X} {qs : List ℕ} → GivesAll A σ ts qs → values A σ ts qs ≡ true
-    completeAll nothing = refl
-    completeAll (d next ds) = and-eq-true-iff _ _ .1 (complete d, completeAll ds)
+    values-complete : {ts : Terms X} {qs : List ℕ} → GivesAll A σ ts qs → values A σ ts qs ≡ true
+    values-complete nothing = refl
+    values-complete (d next ds) = and-eq-true-iff _ _ .1 (value-complete d, values-complete ds)
 
   mutual
     unfolding value
 
-    sound : (t : Term X) {q : ℕ} → value A σ t q ≡ true → Gives A σ t q
-    sound (var x) {q} e = assigned (equal-iff (σ x) q .0 e)
-    sound (node f ts) {q} e =
+    value-sound : (t : Term X) {q : ℕ} → value A σ t q ≡ true → Gives A σ t q
+    value-sound (var x) {q} e = assigned (equal-iff (σ x) q .0 e)
+    value-sound (node f ts) {q} e =
         let (tr, m, i) = any-sound (A .transitions) e in
         let (g, p, h) = match-iff (tr .symbol) f (tr .target) q (values A σ ts (tr .arguments)) .0 i in
-        applied (retarget g p m) (soundAll ts (tr .arguments) h)
+        applied (retarget g p m) (values-sound ts (tr .arguments) h)
 
-    soundAll : (ts : Terms X) (qs : List ℕ) → values A σ ts qs ≡ true → GivesAll A σ ts qs
-    soundAll none [] e = nothing
-    soundAll none (q ∷ qs) e = absurd (false≢true e)
-    soundAll (t then ts) [] e = absurd (false≢true e)
-    soundAll (t then ts) (q ∷ qs) e = let (h, hs) = and-eq-true-iff (value A σ t q) (values A σ ts qs) .0 e in sound t h next soundAll ts qs hs
+    values-sound : (ts : Terms X) (qs : List ℕ) → values A σ ts qs ≡ true → GivesAll A σ ts qs
+    values-sound none [] e = nothing
+    values-sound none (q ∷ qs) e = absurd (false≢true e)
+    values-sound (t then ts) [] e = absurd (false≢true e)
+    values-sound (t then ts) (q ∷ qs) e = let (h, hs) = and-eq-true-iff (value A σ t q) (values A σ ts qs) .0 e in value-sound t h next values-sound ts qs hs
 
   -- The test passes exactly for the states that the term evaluates to.
   pub value-exact : (t : Term X) (q : ℕ) → (value A σ t q ≡ true) ↔ Gives A σ t q
-  value-exact t q = (sound t, complete)
+  value-exact t q = (value-sound t, value-complete)
 
   -- Whether the term evaluates to the state is decided.
   pub gives-decided : (t : Term X) (q : ℕ) → Dec (Gives A σ t q)
   gives-decided t q = go (value A σ t q) refl
     where
       go : (b : Bool) → value A σ t q ≡ b → Dec (Gives A σ t q)
-      go true e = yes (sound t e)
-      go false e = no (λ d. true≢false (sym (complete d) ∙ e))
+      go true e = yes (value-sound t e)
+      go false e = no (λ d. true≢false (sym (value-complete d) ∙ e))

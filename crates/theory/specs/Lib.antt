@@ -1,3 +1,4 @@
+-- The definitions of Boichut, Hugot and Boiret, and the tests that compute them.
 pub mod Lists
 pub mod Term
 pub mod Automaton

@@ -1,1 +1,1 @@
-// No code: the definitions of document 002, and their laws.
+// No code: the definitions of Boichut, Hugot and Boiret, and their laws.

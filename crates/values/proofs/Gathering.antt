@@ -1,4 +1,4 @@
--- The words of a symbol gathered into a block: those of one target joined into its row, and the rows one after the other.
+-- The words of a symbol gathered into a sheet: those of one target joined into its row, and the rows one after the other.
 use mathlib.Core.Path.{_≡_, refl, sym, ap, ap₂, _∙_, fun-ext}
 use mathlib.Core.Bool.{Bool, true, false, _&&_, _||_, or-false, or-assoc, false≢true}
 use mathlib.Core.Logic.{inl, inr}
@@ -74,7 +74,7 @@ parts-at w (suc zero) h = refl
 parts-at w (suc (suc zero)) h = refl
 parts-at w (suc (suc (suc j))) h = absurd (omega arith)
 
--- A block apart from the one that is filled keeps its rows.
+-- A sheet apart from the one that is filled keeps its rows.
 module _ (k : ℕ) (m : List (List ℕ)) (out : ℕ) (after : List (List ℕ)) (only : Within k m out after) where
   row-kept : (a q : ℕ) → Apart k a out → q < k → getD after (a + q) [] ≡ getD m (a + q) []
   row-kept a q apart hq = only .same (a + q) (elim (decLt (a + q) out) [
@@ -97,7 +97,7 @@ module _ (k : ℕ) (m : List (List ℕ)) (out : ℕ) (after : List (List ℕ)) (
       ∙ ap (λ b. b && lit (getD m (a + part w j) []) l) (sym (lt-ltb (part w j) k (below j h)))
       ∙ ap (lane k m a l) (sym p))
 
--- The classes that the words of f give in lane l for arguments from the first n blocks.
+-- The classes that the words of f give in lane l for arguments from the first n sheets.
 abbrev reached : (words heads : List ℕ) (f n k : ℕ) (m : List (List ℕ)) (kids arities : List ℕ) (l : ℕ) → Set
 reached words heads f n k m kids arities l = gathered (wovenMoves arities words (getD heads 64 0)) f (take n (map (λ a. lane k m a l) kids))
 
@@ -114,19 +114,19 @@ pub record RowsDone (words heads : List ℕ) (f n k : ℕ) (m₀ : List (List �
       → lit (getD m (out + p) []) l ≡ reached words heads f n k m₀ kids arities l p
 
 module _ {words heads : List ℕ} {f n k : ℕ} {m₀ : List (List ℕ)} {kids : List ℕ} {out : ℕ} (g : Gatherable words heads f n k m₀ kids out) where
-  pub rows-begun : {at end i : ℕ} → at ≡ f → end ≡ getD heads (at + 1) 0 → i ≡ getD heads at 0 → RowsDone words heads f n k m₀ kids out end m₀ i 0
-  rows-begun at last first = record {
-    last = last ∙ ap (λ x. getD heads (x + 1) 0) at;
-    low = omega (arith, ap (λ x. getD heads x 0) at);
-    high = omega (arith, ap (λ x. getD heads x 0) at, ap (λ x. getD heads (x + 1) 0) at, g .indexed .sorted .order f (g .symbol));
+  pub rows-begun : {end i : ℕ} → end ≡ getD heads (f + 1) 0 → i ≡ getD heads f 0 → RowsDone words heads f n k m₀ kids out end m₀ i 0
+  rows-begun last first = record {
+    last = last;
+    low = omega arith;
+    high = omega (arith, g .indexed .sorted .order f (g .symbol));
     few = omega arith;
-    before = λ p lo hi. absurd (omega (arith, ap (λ x. getD heads x 0) at));
+    before = λ p lo hi. absurd (omega arith);
     after = λ p lo hi. omega arith;
     only = record { long = refl; same = λ i side. refl };
     done = λ arities e l hl p h. absurd (omega arith);
   }
 
-  -- The targets of the words of f whose arguments are in their blocks are reached, and no other class.
+  -- The targets of the words of f whose arguments are in their sheets are reached, and no other class.
   module _ (arities : List ℕ) (arity : getD arities f 0 ≡ n) (l : ℕ) where
     abbrev sets : List Set
     sets = take n (map (λ a. lane k m₀ a l) kids)

@@ -12,10 +12,10 @@ use Rattle.theory.specs.Preorder.{Token}
 use Rattle.theory.specs.Automaton.{Transition}
 use Rattle.tables.specs.Held.{tokenOf}
 use Rattle.values.specs.Sets.{spanned}
-use Rattle.values.specs.Lanes.{lane, blockOf, given}
+use Rattle.values.specs.Lanes.{lane, sheetOf, given}
 use Rattle.values.specs.Standing.{EachRow, one, over, empty, _beside_, Without, Spells, SpellsRow, Stands, Kept, Noted, unchanged, noted, Valued}
 use Rattle.values.proofs.Spanned.{spanned-same, each-then}
-use Rattle.values.proofs.Blocks.{Same, block-same, same-rows, given-same, block-symbol, block-variable, block-where}
+use Rattle.values.proofs.Sheets.{Same, sheet-same, same-rows, given-same, sheet-symbol, sheet-variable, sheet-where}
 use Rattle.values.proofs.Standing.{some-token, behind, each-variable, spelled-inside, inside, within-room, variable-here, symbol-here, no-terms, first-here, valued-room}
 
 -- Terms without the variable `near`.
@@ -60,33 +60,33 @@ module _ (Δ : List Transition) (arities tokens : List ℕ) (k near : ℕ) where
     other : (y : ℕ) → (64 + y ≡ near → ⊥) → (48 + y < 48 + x) ⊎ (48 + x + 1 ≤ 48 + y)
     other y ne = elim (decLt y x) [ yes l ↦ inl (omega arith) | no n ↦ inr (elim (decLt x y) [ yes l ↦ omega arith | no n′ ↦ absurd (ne (omega arith)) ]) ]
 
-    far : (p : ℕ) → p < 48 → (t : Term ℕ) (rest : List Token) → Spells arities tokens p t rest → Without near t → (blockOf tokens p < 48 + x) ⊎ (48 + x + 1 ≤ blockOf tokens p)
+    far : (p : ℕ) → p < 48 → (t : Term ℕ) (rest : List Token) → Spells arities tokens p t rest → Without near t → (sheetOf tokens p < 48 + x) ⊎ (48 + x + 1 ≤ sheetOf tokens p)
     far p h t rest s w = elim (decLt (getD tokens p 0) 64) [
-      | yes l ↦ inl (omega (arith, block-symbol tokens p l))
+      | yes l ↦ inl (omega (arith, sheet-symbol tokens p l))
       | no n ↦
           let hv : 64 ≤ getD tokens p 0 = omega arith in
           let ne = each-variable (subst (Without near) (variable-here arities tokens p (spelled-inside s) hv t rest s .0) w) in
-          let block = block-variable tokens p hv in
+          let sheet = sheet-variable tokens p hv in
           ⊎-elim (λ l. inl (omega arith)) (λ l. inr (omega arith)) (other (getD tokens p 0 - 64) ne)
     ]
 
     pub kept-near : ((i : ℕ) → (i < (48 + x) * k) ⊎ ((48 + x) * k + k ≤ i) → getD after i [] ≡ getD m i []) → Kept Δ arities tokens k near m ends → Kept Δ arities tokens k near after ends
     unfolding given
     kept-near rows old =
-        let same = block-same k (48 + x) (48 + x + 1) m after (same-rows k (48 + x) m after rows) in
+        let same = sheet-same k (48 + x) (48 + x + 1) m after (same-rows k (48 + x) m after rows) in
         record {
           end = old .end;
           without = old .without;
           value = λ p h e t rest s l hl.
               let w = old .without p h e t rest s in
-              same (blockOf tokens p) l (far p h t rest s w)
+              same (sheetOf tokens p) l (far p h t rest s w)
               ∙ old .value p h e t rest s l hl
               ∙ spanned-same Δ (given k m l) (given k after l) (each-then (λ y. 64 + y ≡ near → ⊥) (λ y. given k m l y ≡ given k after l y) (λ y ne. sym (same (48 + y) l (other y ne))) w);
         }
 
 -- A term that was valued has its value by the sets that the variables have now.
 valued-now : {Δ : List Transition} {arities tokens : List ℕ} {k : ℕ} {m₀ m : List (List ℕ)} {at next : ℕ} → Stands arities tokens at → Valued Δ arities tokens k m₀ at m next
-    → (t : Term ℕ) (rest : List Token) → Spells arities tokens at t rest → (l : ℕ) → l < 512 → lane k m (blockOf tokens at * k) l ≡ spanned Δ (given k m l) t
+    → (t : Term ℕ) (rest : List Token) → Spells arities tokens at t rest → (l : ℕ) → l < 512 → lane k m (sheetOf tokens at * k) l ≡ spanned Δ (given k m l) t
 valued-now {Δ = Δ} {arities = arities} {tokens = tokens} {k = k} {m₀ = m₀} {m = m} {at = at} {next = next} s v t rest w l hl =
     v .value t rest w l hl ∙ ap (λ ρ. spanned Δ ρ t) (sym (given-same k at next m₀ m (v .outside) (valued-room arities tokens Δ k s v) l))
 
@@ -118,17 +118,17 @@ module _ {Δ : List Transition} {arities tokens : List ℕ} {k near : ℕ} where
       value = λ p h e t rest w l hl. elim (ℕ-discrete p at) [
         | yes is ↦ rw is (valued-now s v t rest (rw is at w) l hl)
         | no ne ↦
-            block-same k at (at + 1) old m same (blockOf tokens p) l (far p h ne)
+            sheet-same k at (at + 1) old m same (sheetOf tokens p) l (far p h ne)
             ∙ kept .value p h e t rest w l hl
             ∙ ap (λ ρ. spanned Δ ρ t) (sym (given-same k at (at + 1) old m same (omega (arith, within-room s)) l))
       ];
     }
       where
-        far : (p : ℕ) → p < 48 → (p ≡ at → ⊥) → (blockOf tokens p < at) ⊎ (at + 1 ≤ blockOf tokens p)
+        far : (p : ℕ) → p < 48 → (p ≡ at → ⊥) → (sheetOf tokens p < at) ⊎ (at + 1 ≤ sheetOf tokens p)
         far p h ne = ⊎-elim
             (λ b. elim (decLt p at) [ yes l ↦ inl (omega arith) | no n ↦ inr (elim (decLt at p) [ yes l ↦ omega arith | no n′ ↦ absurd (ne (omega arith)) ]) ])
             (λ b. inr (omega (arith, within-room s)))
-            (block-where tokens p)
+            (sheet-where tokens p)
 
     -- And it is kept itself, where it is without the variable `near`.
     pub kept-more : {ends : List ℕ} → Lacks arities tokens near at → Kept Δ arities tokens k near m ends → Kept Δ arities tokens k near m (set ends at next)

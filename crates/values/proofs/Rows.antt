@@ -1,4 +1,4 @@
--- Rows: a loop that makes one word by word, rows joined lane by lane, and rows stored in a block.
+-- Rows: a loop that makes one word by word, rows joined lane by lane, and rows stored in a sheet.
 use mathlib.Core.Path.{_≡_, refl, sym, ap, ap₂, _∙_}
 use mathlib.Core.Bool.{Bool, true, false, _&&_, _||_, and-true, and-self}
 use mathlib.Core.Logic.{⊎-elim}
@@ -11,7 +11,7 @@ use lib.Seq.{getD-set-same, getD-set-other}
 use borrow.Author.Count.{below-more}
 use borrow.Author.Tests.{lt-ltb}
 use Rattle.theory.proofs.Bools.{zero-at}
-use Rattle.sets.specs.Sets.{Set, mem}
+use Rattle.sets.specs.Sets.{Set, mem, allMask}
 use Rattle.sets.proofs.Laws.{mem-zero, mem-below, mem-or, mem-and}
 use Rattle.woven.specs.Woven.{part}
 use Rattle.values.specs.Sets.{drawn}
@@ -55,15 +55,15 @@ none-lit l = ap (λ w. mem w (l % 64)) (zero-at 8 (l / 64)) ∙ ap (λ (s : Set)
 
 -- The row of all ones.
 abbrev pub ones : List ℕ
-ones = replicate 8 18446744073709551615
+ones = replicate 8 allMask
 
 pub all-lit : (l : ℕ) → l < 512 → lit ones l ≡ true
 all-lit l hl =
-    ap (λ w. mem w (l % 64)) (getD-replicate 8 (l / 64) 18446744073709551615 0 (omega arith))
+    ap (λ w. mem w (l % 64)) (getD-replicate 8 (l / 64) allMask 0 (omega arith))
     ∙ ap (λ (s : Set). s (l % 64)) (mem-below 64)
     ∙ lt-ltb (l % 64) 64 (omega arith)
 
--- A row of a block is changed, and nothing else.
+-- A row of a sheet is changed, and nothing else.
 pub row-within : (k : ℕ) (m : List (List ℕ)) (a q : ℕ) (now after : List (List ℕ))
     → q < k → length after ≡ length now → ((j : ℕ) → (j ≡ a + q → ⊥) → getD after j [] ≡ getD now j []) → Within k m a now → Within k m a after
 row-within k m a q now after hq long same w = record {

@@ -17,10 +17,10 @@ use Rattle.sets.specs.Sets.{Set}
 use Rattle.tables.specs.Held.{tokenOf}
 use Rattle.woven.specs.Woven.{wovenMoves}
 use Rattle.values.specs.Sets.{gathered, spanned, spannedAll}
-use Rattle.values.specs.Lanes.{lane, blockOf, given}
+use Rattle.values.specs.Lanes.{lane, sheetOf, given}
 use Rattle.values.specs.Rows.{Gathered}
 use Rattle.values.specs.Standing.{Each, EachRow, one, over, _beside_, Spells, SpellsRow, Stands, Valued}
-use Rattle.values.proofs.Blocks.{Same, block-same, given-same, same-wider, same-within, same-then, block-symbol, block-variable, block-where}
+use Rattle.values.proofs.Sheets.{Same, sheet-same, given-same, same-wider, same-within, same-then, sheet-symbol, sheet-variable, sheet-where}
 
 pub some-token : (t : Term ℕ) → 1 ≤ length (preorder t)
 unfolding preorder
@@ -106,14 +106,14 @@ module _ (arities tokens : List ℕ) where
     pub symbol-here : (t : Term ℕ) (rest : List Token) → Spells arities tokens at t rest → Node at (getD tokens at 0) t rest
     symbol-here t rest s = taken-symbol rest (s .ranked) (ap (λ x. x ∷ from (at + 1)) (sym is-function) ∙ sym (first-token at h) ∙ s .reads)
 
-  -- A term over the four variables has its block in the room of all blocks.
-  pub block-room : (at : ℕ) → Stands arities tokens at → blockOf tokens at < 52
-  block-room at s = elim (decLt (getD tokens at 0) 64) [
-    | yes h ↦ omega (arith, block-symbol tokens at h, within-room s)
+  -- A term over the four variables has its sheet in the room of all sheets.
+  pub sheet-room : (at : ℕ) → Stands arities tokens at → sheetOf tokens at < 52
+  sheet-room at s = elim (decLt (getD tokens at 0) 64) [
+    | yes h ↦ omega (arith, sheet-symbol tokens at h, within-room s)
     | no n ↦
         let hv : 64 ≤ getD tokens at 0 = omega arith in
         let four = each-variable (subst (Each (λ x. x < 4)) (variable-here at (inside s) hv (s .term) (s .rest) (s .spells) .0) (s .four)) in
-        omega (arith, block-variable tokens at hv, four)
+        omega (arith, sheet-variable tokens at hv, four)
   ]
 
   -- A row without terms, and the first term of a row.
@@ -192,7 +192,7 @@ module _ (arities tokens : List ℕ) where
     pub valued-room : {at : ℕ} {m after : List (List ℕ)} {next : ℕ} → Stands arities tokens at → Valued Δ arities tokens k m at after next → next ≤ 48
     valued-room s v = omega (arith, s .room, v .end (s .term) (s .rest) (s .spells))
 
-    -- The row of n terms at a place is valued: each has its value in one of the blocks bs, and `next` is the place after them.
+    -- The row of n terms at a place is valued: each has its value in one of the sheets bs, and `next` is the place after them.
     pub record RowValued (m : List (List ℕ)) (at n : ℕ) (bs : List ℕ) (after : List (List ℕ)) (next : ℕ) : Type 0 where
       pub values : (ts : Terms ℕ) (rest : List Token) → SpellsRow arities tokens at n ts rest → (l : ℕ) → l < 512
           → (later : List (List ℕ)) → Same k 0 at after later → map (λ a. lane k later a l) bs ≡ spannedAll Δ (given k m l) ts
@@ -203,14 +203,14 @@ module _ (arities tokens : List ℕ) where
       pub long : length after ≡ length m
       pub outside : Same k at next m after
 
--- A variable's set is in its own block.
+-- A variable's set is in its own sheet.
 pub variable-valued : {Δ : List Transition} {arities tokens : List ℕ} {k : ℕ} {m : List (List ℕ)} {at : ℕ} → Stands arities tokens at → 64 ≤ getD tokens at 0
     → Valued Δ arities tokens k m at m (at + 1)
 unfolding spanned preorder given
 variable-valued {Δ = Δ} {arities = arities} {tokens = tokens} {k = k} {m = m} {at = at} s hv = record {
   value = λ t rest w l hl.
-      let block : blockOf tokens at ≡ 48 + (getD tokens at 0 - 64) = omega (arith, block-variable tokens at hv) in
-      ap (λ b. lane k m (b * k) l) block ∙ ap (spanned Δ (given k m l)) (sym (is t rest w .0));
+      let sheet : sheetOf tokens at ≡ 48 + (getD tokens at 0 - 64) = omega (arith, sheet-variable tokens at hv) in
+      ap (λ b. lane k m (b * k) l) sheet ∙ ap (spanned Δ (given k m l)) (sym (is t rest w .0));
   rest = λ t rest w. is t rest w .1;
   end = λ t rest w. ap (λ t. at + length (preorder t)) (sym (is t rest w .0));
   forward = omega arith;
@@ -240,14 +240,14 @@ module _ {arities tokens : List ℕ} {Δ : List Transition} {k : ℕ} where
     left : {ts : Terms ℕ} {rest : List Token} (w : First arities tokens at n ts rest) → SpellsRow arities tokens second n (w .others) rest
     left w = record { ranked = w .ranked; reads = v .rest (w .term) _ (w .spells) }
 
-    -- The first term's block is none of those that change later.
-    first-stays : (l : ℕ) (later : List (List ℕ)) → Same k 0 at after later → lane k later (blockOf tokens at * k) l ≡ lane k mid (blockOf tokens at * k) l
+    -- The first term's sheet is none of those that change later.
+    first-stays : (l : ℕ) (later : List (List ℕ)) → Same k 0 at after later → lane k later (sheetOf tokens at * k) l ≡ lane k mid (sheetOf tokens at * k) l
     first-stays l later e =
-        let place = block-where tokens at in
-        block-same k 0 at after later e (blockOf tokens at) l (⊎-elim (λ w. inr (omega arith)) (λ w. inr (omega (arith, v .forward, r .forward, r .room))) place)
-        ∙ block-same k second next mid after (r .outside) (blockOf tokens at) l (⊎-elim (λ w. inl (omega (arith, v .forward))) (λ w. inr (omega (arith, r .room))) place)
+        let place = sheet-where tokens at in
+        sheet-same k 0 at after later e (sheetOf tokens at) l (⊎-elim (λ w. inr (omega arith)) (λ w. inr (omega (arith, v .forward, r .forward, r .room))) place)
+        ∙ sheet-same k second next mid after (r .outside) (sheetOf tokens at) l (⊎-elim (λ w. inl (omega (arith, v .forward))) (λ w. inr (omega (arith, r .room))) place)
 
-    pub row-more : RowValued arities tokens Δ k m at (suc n) (blockOf tokens at * k ∷ bs) after next
+    pub row-more : RowValued arities tokens Δ k m at (suc n) (sheetOf tokens at * k ∷ bs) after next
     unfolding spanned preorder
     row-more = record {
       values = λ ts rest s l hl later e.
@@ -272,7 +272,7 @@ module _ {arities tokens : List ℕ} {Δ : List Transition} {k : ℕ} where
 abbrev pub moves : (arities words heads : List ℕ) → List Transition
 moves arities words heads = wovenMoves arities words (getD heads 64 0)
 
--- A symbol over a row that is valued: its words are gathered into its block.
+-- A symbol over a row that is valued: its words are gathered into its sheet.
 module _ {arities tokens words heads : List ℕ} {k : ℕ} {m : List (List ℕ)} {at n : ℕ} {bs kids : List ℕ} {mid after : List (List ℕ)} {next : ℕ} where
   pub symbol-valued : Stands arities tokens at → getD tokens at 0 < 64 → getD arities (getD tokens at 0) 0 ≡ n → ((g : ℕ → Set) → take n (map g kids) ≡ map g bs)
       → RowValued arities tokens (moves arities words heads) k m (at + 1) n bs mid next → Gathered arities words heads (getD tokens at 0) n k mid kids (at * k) after
@@ -281,7 +281,7 @@ module _ {arities tokens words heads : List ℕ} {k : ℕ} {m : List (List ℕ)}
   symbol-valued s hs arity pick r g = record {
     value = λ t rest e l hl.
         let here = symbol-here arities tokens at (inside s) hs t rest e in
-        ap (λ b. lane k after (b * k) l) (block-symbol tokens at hs)
+        ap (λ b. lane k after (b * k) l) (sheet-symbol tokens at hs)
         ∙ g .value arity l hl
         ∙ ap (gathered (moves arities words heads) (getD tokens at 0))
         (pick (λ a. lane k mid a l) ∙ r .values (here .row) rest (rw arity at (here .spells)) l hl mid (λ i w. refl))

@@ -1,4 +1,4 @@
--- The steps of valuing a symbol's term: its arguments one after the other, then its own block from theirs.
+-- The steps of valuing a symbol's term: its arguments one after the other, then its own sheet from theirs.
 use mathlib.Core.Path.{_≡_, refl, ap}
 use mathlib.Core.Logic.{inr, ⊎-elim}
 use mathlib.Core.List.{List, [], _∷_, map}
@@ -8,18 +8,18 @@ use native.Mathlib.Omega.{arith}
 use lib.ListN.{length, getD, set, take}
 use Rattle.sets.specs.Sets.{Set}
 use Rattle.woven.proofs.Indexing.{within}
-use Rattle.values.specs.Lanes.{blockOf}
+use Rattle.values.specs.Lanes.{sheetOf}
 use Rattle.values.specs.Rows.{Room, Apart, Gatherable, Gathered}
 use Rattle.values.specs.Standing.{Stands, Kept, Noted, Valuable, Valued}
-use Rattle.values.proofs.Blocks.{same-within, apart, room, block-where}
-use Rattle.values.proofs.Standing.{moves, StandsRow, RowValued, within-room, block-room, subterms, first-stands, others-stand, symbol-valued}
+use Rattle.values.proofs.Sheets.{same-within, apart, room, sheet-where}
+use Rattle.values.proofs.Standing.{moves, StandsRow, RowValued, within-room, sheet-room, subterms, first-stands, others-stand, symbol-valued}
 use Rattle.values.proofs.Keeping.{Lacks, LacksRow, lacks-symbol, kept-beside, kept-more, kept-noted}
 
--- A block's first row is a number of 64 bits.
-pub block-fits : (b k : ℕ) → b < 52 → k ≤ 64 → b * k < 2 ^ 64
-block-fits b k h hk = omega (arith, mul-le-mul-right {m = b} {n = 52} k (omega arith))
+-- A sheet's first row is a number of 64 bits.
+pub sheet-fits : (b k : ℕ) → b < 52 → k ≤ 64 → b * k < 2 ^ 64
+sheet-fits b k h hk = omega (arith, mul-le-mul-right {m = b} {n = 52} k (omega arith))
 
--- A block behind that of the place `at`.
+-- A sheet behind that of the place `at`.
 abbrev pub Behind : (at r : ℕ) → Type 0
 Behind at r = (at < r) × (r < 52)
 
@@ -46,11 +46,11 @@ module _ {arities words heads tokens : List ℕ} {near k : ℕ} where
     pub ahead-valuable : {at : ℕ} {ends₀ : List ℕ} {m₀ : List (List ℕ)} → Valuable arities words heads tokens near k at ends₀ m₀ → Valuable arities words heads tokens near k p ends m
     ahead-valuable v = record { ready = v .ready; tokens-long = v .tokens-long; stands = ahead-stands; room = a .room; kept = a .kept }
 
-    -- Its block lies behind those of the places before it.
-    pub ahead-behind : {r : ℕ} → r ≡ blockOf tokens p → (at : ℕ) → at < p → Behind at r
-    ahead-behind e at h = let here = within-room ahead-stands in (⊎-elim (λ w. omega arith) (λ w. omega arith) (block-where tokens p), omega (arith, block-room arities tokens p ahead-stands))
+    -- Its sheet lies behind those of the places before it.
+    pub ahead-behind : {r : ℕ} → r ≡ sheetOf tokens p → (at : ℕ) → at < p → Behind at r
+    ahead-behind e at h = let here = within-room ahead-stands in (⊎-elim (λ w. omega arith) (λ w. omega arith) (sheet-where tokens p), omega (arith, sheet-room arities tokens p ahead-stands))
 
--- A symbol's words may be gathered into its block.
+-- A symbol's words may be gathered into its sheet.
 module _ {arities words heads tokens : List ℕ} {near k at n : ℕ} {ends : List ℕ} {m mid : List (List ℕ)} (v : Valuable arities words heads tokens near k at ends m)
     (hs : getD tokens at 0 < 64) (arity : getD arities (getD tokens at 0) 0 ≡ n) (long : 52 * k ≤ length mid) where
   gatherable : (kids : List ℕ) → ((j : ℕ) → j < n → Room k mid (getD kids j 0)) → ((j : ℕ) → j < n → Apart k (getD kids j 0) (at * k)) → Gatherable words heads (getD tokens at 0) n k mid kids (at * k)
@@ -88,7 +88,7 @@ module _ {arities words heads tokens : List ℕ} {near k at n : ℕ} {ends : Lis
       three P (suc (suc zero)) h pa pb pc = pc
       three P (suc (suc (suc j))) h pa pb pc = absurd (omega arith)
 
--- The symbol's block is filled, and what is kept stays right; it is kept too where its arguments are.
+-- The symbol's sheet is filled, and what is kept stays right; it is kept too where its arguments are.
 module _ {arities words heads tokens : List ℕ} {near k : ℕ} {m : List (List ℕ)} {at n : ℕ} {bs kids : List ℕ} {mid after : List (List ℕ)} {next : ℕ} {ends : List ℕ}
     (s : Stands arities tokens at) (hs : getD tokens at 0 < 64) (arity : getD arities (getD tokens at 0) 0 ≡ n) (pick : (g : ℕ → Set) → take n (map g kids) ≡ map g bs)
     (r : RowValued arities tokens (moves arities words heads) k m (at + 1) n bs mid next)

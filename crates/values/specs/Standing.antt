@@ -8,10 +8,11 @@ use Rattle.theory.specs.Term.{Term, Terms, var, node, none, _then_}
 use Rattle.theory.specs.Preorder.{Token, preorder, preorderAll, Ranked, RankedRow}
 use Rattle.theory.specs.Rewriting.{Rule}
 use Rattle.theory.specs.Automaton.{Transition}
+use Rattle.paper.specs.Limits.{mostArity}
 use Rattle.tables.specs.Held.{tokenOf}
 use Rattle.woven.specs.Woven.{part, wovenMoves, Indexed}
 use Rattle.values.specs.Sets.{spanned}
-use Rattle.values.specs.Lanes.{lane, blockOf, given}
+use Rattle.values.specs.Lanes.{lane, sheetOf, given}
 
 infixr 40 _beside_
 mutual
@@ -61,18 +62,18 @@ pub record Ready (arities words heads : List ℕ) (k : ℕ) : Type 0 where
   pub indexed : Indexed words heads
   pub target : (i : ℕ) → i < getD heads 64 0 → part (getD words i 0) 3 < k
   pub argument : (i j : ℕ) → i < getD heads 64 0 → j < getD arities (part (getD words i 0) 4) 0 → part (getD words i 0) j < k
-  pub ranks : (f : ℕ) → getD arities f 0 ≤ 3
+  pub ranks : (f : ℕ) → getD arities f 0 ≤ mostArity
   pub some : 1 ≤ k
   pub most : k ≤ 64
 
 -- The values of some subterms are kept: where `ends` has a number other than 0 at a place, the term there ends before that place, is without the variable `near`,
--- and its block has its value in each lane.
+-- and its sheet has its value in each lane.
 pub record Kept (Δ : List Transition) (arities tokens : List ℕ) (k near : ℕ) (m : List (List ℕ)) (ends : List ℕ) : Type 0 where
   pub end : (p : ℕ) → p < 48 → 0 < getD ends p 0 → (t : Term ℕ) (rest : List Token) → Spells arities tokens p t rest
       → getD ends p 0 ≡ p + length (preorder t)
   pub without : (p : ℕ) → p < 48 → 0 < getD ends p 0 → (t : Term ℕ) (rest : List Token) → Spells arities tokens p t rest → Without near t
   pub value : (p : ℕ) → p < 48 → 0 < getD ends p 0 → (t : Term ℕ) (rest : List Token) → Spells arities tokens p t rest
-      → (l : ℕ) → l < 512 → lane k m (blockOf tokens p * k) l ≡ spanned Δ (given k m l) t
+      → (l : ℕ) → l < 512 → lane k m (sheetOf tokens p * k) l ≡ spanned Δ (given k m l) t
 
 -- The places of a term and of its arguments, and the place after the term.
 pub record Keepable (at a b c next : ℕ) : Type 0 where
@@ -87,7 +88,7 @@ pub data Noted (ends : List ℕ) (at a b c next : ℕ) (after : List ℕ) : Type
   unchanged : after ≡ ends → Noted ends at a b c next after
   noted : 0 < getD ends a 0 → 0 < getD ends b 0 → 0 < getD ends c 0 → after ≡ set ends at next → Noted ends at a b c next after
 
--- What valuing the term at a place relies on: the tables, a rule's tokens with a term at that place, room for all blocks, and what is kept.
+-- What valuing the term at a place relies on: the tables, a rule's tokens with a term at that place, room for all sheets, and what is kept.
 pub record Valuable (arities words heads tokens : List ℕ) (near k at : ℕ) (ends : List ℕ) (m : List (List ℕ)) : Type 0 where
   pub ready : Ready arities words heads k
   pub tokens-long : length tokens ≡ 48
@@ -95,11 +96,11 @@ pub record Valuable (arities words heads tokens : List ℕ) (near k at : ℕ) (e
   pub room : 52 * k ≤ length m
   pub kept : Kept (wovenMoves arities words (getD heads 64 0)) arities tokens k near m ends
 
--- The term at a place is valued: its block has its value in each lane, by the sets that the variables have, `next` is the place after it,
--- and no row of another term's block or of a variable's is changed.
+-- The term at a place is valued: its sheet has its value in each lane, by the sets that the variables have, `next` is the place after it,
+-- and no row of another term's sheet or of a variable's is changed.
 pub record Valued (Δ : List Transition) (arities tokens : List ℕ) (k : ℕ) (m : List (List ℕ)) (at : ℕ) (after : List (List ℕ)) (next : ℕ) : Type 0 where
   pub value : (t : Term ℕ) (rest : List Token) → Spells arities tokens at t rest → (l : ℕ) → l < 512
-      → lane k after (blockOf tokens at * k) l ≡ spanned Δ (given k m l) t
+      → lane k after (sheetOf tokens at * k) l ≡ spanned Δ (given k m l) t
   pub rest : (t : Term ℕ) (rest : List Token) → Spells arities tokens at t rest → map tokenOf (drop next tokens) ≡ rest
   pub end : (t : Term ℕ) (rest : List Token) → Spells arities tokens at t rest → next ≡ at + length (preorder t)
   pub forward : at < next

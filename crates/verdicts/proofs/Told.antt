@@ -1,19 +1,20 @@
 -- An answer of the code is fixed by what it says: two that say the same are equal.
 use mathlib.Core.Path.{_≡_, refl, sym, ap, _∙_}
 use mathlib.Core.List.{List, [], _∷_}
-use mathlib.Core.Option.{Option, none, some}
+use mathlib.Core.Option.{some}
 use Prim.Native.Nat.{ℕ, zero, suc, _<_}
 use native.Mathlib.Omega.{arith}
 use native.Mathlib.Decide.{ℕ-discrete}
 use borrow.Author.Tests.{eq-eqb, ne-eqb}
 use lib.ListN.{getD}
+use Rattle.paper.specs.Format.{lineAt, lineNumber}
 use Rattle.paper.specs.Meaning.{Sharing as PaperSharing, Closure as PaperClosure, Asked}
 use Rattle.verdicts.specs.declared.CriticalPair.{CriticalPair}
 use Rattle.verdicts.specs.declared.Sharing.{Sharing}
 use Rattle.verdicts.specs.declared.Sharing.the-variants.{Pair, Nothing, Refused as SharingRefused}
 use Rattle.verdicts.specs.declared.Closure.{Closure}
 use Rattle.verdicts.specs.declared.Closure.the-variants.{Critical, Closed, Stopped, Refused as ClosureRefused}
-use Rattle.verdicts.specs.Said.{classThen, classesOf, lineOf, lineNumber, saidSharing, saidClosure, Ended, EndedIn, Tells}
+use Rattle.verdicts.specs.Said.{classThen, classesOf, saidSharing, saidClosure, Ended, EndedIn, Tells}
 
 -- A class number, or 255, is what stands first of its list ..
 first-class : (x : ℕ) (xs : List ℕ) → getD (classThen x xs) 0 255 ≡ x
@@ -43,14 +44,23 @@ classes-are p e = record {
   x0-is = first-class (p .x0) _;
   x1-is = later-class (p .x0) _ 0 (p .x1) (first-class (p .x1) _) (e .after-x0);
   x2-is = later-class (p .x0) _ 1 (p .x2) (later-class (p .x1) _ 0 (p .x2) (first-class (p .x2) _) (e .after-x1)) (λ h. e .after-x1 (e .after-x0 h));
-  x3-is = later-class (p .x0) _ 2 (p .x3) (later-class (p .x1) _ 1 (p .x3) (later-class (p .x2) _ 0 (p .x3) (first-class (p .x3) []) (e .after-x2)) (λ h. e .after-x2 (e .after-x1 h))) (λ h. e .after-x2 (e .after-x1 (e .after-x0 h)));
+  x3-is =
+      later-class (p .x0) _ 2 (p .x3)
+      (later-class (p .x1) _ 1 (p .x3) (later-class (p .x2) _ 0 (p .x3) (first-class (p .x3) []) (e .after-x2)) (λ h. e .after-x2 (e .after-x1 h)))
+      (λ h. e .after-x2 (e .after-x1 (e .after-x0 h)));
 }
 
--- A line has its number.
-pub line-back : (line : ℕ) → lineNumber (lineOf line) ≡ line
-unfolding lineOf lineNumber
+-- A line has its number ..
+pub line-back : (line : ℕ) → lineNumber (lineAt line) ≡ line
+unfolding lineAt lineNumber
 line-back zero = refl
-line-back (suc n) = rw (ne-eqb (suc n) 0 (λ e. omega arith), lineOf)
+line-back (suc n) = refl
+
+-- .. and one that is not 0 is a line.
+pub line-is : (line : ℕ) → (line ≡ 0 → ⊥) → lineAt line ≡ some line
+unfolding lineAt
+line-is zero n = absurd (n refl)
+line-is (suc line) n = refl
 
 -- The answer to the first question that says s: what says s is this.
 abbrev sharingFor : Asked PaperSharing → Sharing

@@ -1,4 +1,3 @@
-pub mod PaperLines
-pub mod HeadingLaws
+-- What the walks over a view share.
+pub mod Walk
 pub mod Apart
-pub mod Fixed

@@ -55,12 +55,8 @@ pub record Inside (heads : List ℕ) (f end i : ℕ) : Type 0 where
   pub low : getD heads f 0 ≤ i
   pub high : i ≤ end
 
-pub inside-first : {words heads : List ℕ} {f at end i : ℕ} → Indexed words heads → f < 64 → at ≡ f → end ≡ getD heads (at + 1) 0 → i ≡ getD heads at 0 → Inside heads f end i
-inside-first {heads = heads} {f = f} d hf at last first = record {
-  last = last ∙ ap (λ x. getD heads (x + 1) 0) at;
-  low = omega (arith, ap (λ x. getD heads x 0) at);
-  high = omega (arith, ap (λ x. getD heads x 0) at, ap (λ x. getD heads (x + 1) 0) at, d .sorted .order f hf);
-}
+pub inside-first : {words heads : List ℕ} {f end i : ℕ} → Indexed words heads → f < 64 → end ≡ getD heads (f + 1) 0 → i ≡ getD heads f 0 → Inside heads f end i
+inside-first {f = f} d hf last first = record { last = last; low = omega arith; high = omega (arith, d .sorted .order f hf) }
 
 pub inside-next : {heads : List ℕ} {f end i : ℕ} → Inside heads f end i → i < end → Inside heads f end (i + 1)
 inside-next a h = record { last = a .last; low = omega (arith, a .low); high = omega arith }

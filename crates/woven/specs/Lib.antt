@@ -1,2 +1,3 @@
-pub mod Woven
+-- The definitions that the contracts of `woven` cite.
 pub mod Order
+pub mod Woven

@@ -6,6 +6,7 @@ use Prim.Native.Nat.{ℕ, _+_, _*_, _/_, _%_, _^_, _≤_, _<_}
 use lib.ListN.{length, getD, take}
 use Rattle.theory.specs.Lists.{countFrom}
 use Rattle.theory.specs.Automaton.{Transition, _of_gives_}
+use Rattle.paper.specs.Limits.{mostTransitions}
 use Rattle.tables.specs.Held.{movesOf}
 
 -- The number in byte i of a word: its six low digits.
@@ -31,7 +32,7 @@ pub record Sorted (m : ℕ) (words heads : List ℕ) (n : ℕ) : Type 0 where
 -- The words of all symbols are sorted so, and there is room for them.
 pub record Indexed (words heads : List ℕ) : Type 0 where
   pub sorted : Sorted 64 words heads (getD heads 64 0)
-  pub room : getD heads 64 0 ≤ 128
+  pub room : getD heads 64 0 ≤ mostTransitions
 
 -- A number in each of the five low bytes.
 unfoldable pub packed : (a b c target symbol : ℕ) → ℕ
@@ -52,5 +53,5 @@ pub record SameMoves (rows words heads : List ℕ) (n : ℕ) : Type 0 where
 -- A flat table with n rows: there are that many, at most 128, and every byte is below 64.
 pub record Flat (rows : List ℕ) (n : ℕ) : Type 0 where
   pub long : n * 5 ≤ length rows
-  pub most : n ≤ 128
+  pub most : n ≤ mostTransitions
   pub small : (i : ℕ) → getD rows i 0 < 64

@@ -1,4 +1,4 @@
--- `alike::join_row` meets its contract, by recursion over the subterms: the count of remaining tokens falls at each call. Assumes nothing.
+-- `alike::join_row` meets its contract, by recursion over the subterms: the count of remaining tokens falls at each call.
 use mathlib.Core.Path.{_∙_}
 use lib.ListN.{length}
 use Rattle.alike.specs.Sides.{SideGiven}

@@ -1,7 +1,7 @@
--- `alike::called` meets its contract. The invariant: the set has the classes of the words before i with a wanted target. Assumes nothing.
+-- `alike::called` meets its contract. The invariant: the set has the classes of the words before i with a wanted target.
 use mathlib.Core.Path.{_≡_, sym, ap, _∙_}
 use mathlib.Core.Logic.{⊎-elim}
-use Prim.Native.Nat.{ℕ, _-_, _<_}
+use Prim.Native.Nat.{_-_, _<_}
 use lib.ListN.{getD}
 use Rattle.sets.specs.Sets.{mem, plus}
 use Rattle.woven.specs.Woven.{part}
@@ -18,34 +18,30 @@ Inv-loop words heads f p wanted at end i₀ set₀ i set = Inside heads f end i 
 abbrev μ-loop : tie.MeasureT-loop
 μ-loop words heads f p wanted at end i₀ set₀ i set = end - i
 
-place-requires : tie.Need-place-requires Inv-loop μ-loop
-place-requires c κs = search needs
+add-index : tie.Need-add-index Inv-loop μ-loop
+add-index c = omega (arith, c .pre .symbol)
 
-add-place : tie.Need-add-place Inv-loop μ-loop
-add-place c = omega (arith, c .place .ensures, c .before .pre .symbol)
+element-copy-out-index : tie.Need-element-copy-out-index Inv-loop μ-loop
+element-copy-out-index c = omega (arith, c .pre .symbol)
 
-element-copy-out-place : tie.Need-element-copy-out-place Inv-loop μ-loop
-element-copy-out-place c = omega (arith, c .place .ensures, c .before .pre .symbol)
+index-requires : tie.Need-index-requires Inv-loop μ-loop
+index-requires c κs = search needs
 
-place-requires-2 : tie.Need-place-requires-2 Inv-loop μ-loop
-place-requires-2 c κs = search needs
+element-copy-out-index-2 : tie.Need-element-copy-out-index-2 Inv-loop μ-loop
+element-copy-out-index-2 c = omega (arith, c .before .before .pre .symbol)
 
-element-copy-out-place-2 : tie.Need-element-copy-out-place-2 Inv-loop μ-loop
-element-copy-out-place-2 c = omega (arith, c .before .before .place .ensures, c .before .before .before .pre .symbol)
-
-place-requires-3 : tie.Need-place-requires-3 Inv-loop μ-loop
-place-requires-3 c κs = search needs
+index-requires-2 : tie.Need-index-requires-2 Inv-loop μ-loop
+index-requires-2 c κs = search needs
 
 loop-holds : tie.Need-loop-holds Inv-loop μ-loop
 loop-holds c =
-    let start = c .before .before .before .before .before in
-    let at = c .before .before .before .before .place .ensures in
-    let first = inside-first (start .pre .indexed) (start .pre .symbol) at (c .before .before .place2 .ensures) (c .place3 .ensures) in
-    (first, λ k low high. absurd (omega (arith, c .place3 .ensures, ap (λ (n : ℕ). getD (start .args .heads .now) n 0) at)))
+    let start = c .before .before .before .before in
+    let first = inside-first (start .pre .indexed) (start .pre .symbol) (c .before .before .index .ensures) (c .index2 .ensures) in
+    (first, λ k low high. absurd (omega (arith, c .index2 .ensures)))
 
 -- The function's entry, from the loop's head.
 abbrev entry : tie.At-loop Inv-loop μ-loop → tie.Start Inv-loop μ-loop
-entry c = c .before .before .before .before .before .before
+entry c = c .before .before .before .before .before
 
 -- The place of the word that is taken.
 word-in : (c : tie.In-loop Inv-loop μ-loop) → c .before .loop .i < 128
@@ -105,12 +101,11 @@ called-spec =
     (tie.spec
     Inv-loop
     μ-loop
-    place-requires
-    add-place
-    element-copy-out-place
-    place-requires-2
-    element-copy-out-place-2
-    place-requires-3
+    add-index
+    element-copy-out-index
+    index-requires
+    element-copy-out-index-2
+    index-requires-2
     loop-holds
     mul-w
     element-copy-out-w

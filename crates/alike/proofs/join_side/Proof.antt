@@ -1,4 +1,5 @@
--- `alike::join_side` meets its contract: the walk over the arguments of the term's first token. Assumes nothing.
+-- `alike::join_side` meets its contract: the walk over the arguments of the term's first token.
+use Rattle.sets.specs.Sets.{allMask}
 use Rattle.alike.proofs.Sides.{written-inside, inner-given, side-done}
 use native.Mathlib.Omega.{arith}
 use borrow.Author.Needs.{needs}
@@ -20,7 +21,7 @@ join-row-requires : tie.Need-join-row-requires
 join-row-requires c κs =
     let start = c .before .before .before .before .before in
     let a = start .args in
-    (rw (c .before .rank-of .ensures) (inner-given (a .arities .now) (a .tokens .now) (a .words .now) (a .heads .now) (a .x) (a .at) 18446744073709551615 (start .pre .0)), start .pre .1)
+    (rw (c .before .rank-of .ensures) (inner-given (a .arities .now) (a .tokens .now) (a .words .now) (a .heads .now) (a .x) (a .at) allMask (start .pre .0)), start .pre .1)
 
 returns : tie.Need-returns
 returns c = let a = c .before .before .before .before .before .before .args in

@@ -1,4 +1,4 @@
--- `alike::join_token` meets its contract. Assumes nothing.
+-- `alike::join_token` meets its contract: the masks are narrowed where the token is the variable, and are left alone elsewhere.
 use mathlib.Core.Path.{refl}
 use Rattle.alike.proofs.Sides.{token-other, token-met}
 use borrow.Author.Needs.{needs}

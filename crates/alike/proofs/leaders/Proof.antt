@@ -1,4 +1,4 @@
--- `alike::leaders` meets its contract. The invariant: each class before d that is not in the mask has a smaller one in its own. Assumes nothing.
+-- `alike::leaders` meets its contract. The invariant: each class before d that is not in the mask has a smaller one in its own.
 use mathlib.Core.Path.{ap, _∙_, subst}
 use mathlib.Core.Logic.{⊎-elim}
 use Prim.Native.Nat.{_-_, _^_, _≤_, _<_}

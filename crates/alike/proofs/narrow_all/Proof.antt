@@ -1,4 +1,4 @@
--- `alike::narrow_all` meets its contract. The invariant: the masks before d are narrowed. Assumes nothing.
+-- `alike::narrow_all` meets its contract. The invariant: the masks before d are narrowed.
 use mathlib.Core.Path.{subst}
 use Prim.Native.Nat.{_-_, _≤_, _<_}
 use lib.ListN.{length}

@@ -1,7 +1,7 @@
--- `alike::narrow_place` meets its contract. The invariant: the masks are narrowed by the words before i with a wanted target. Assumes nothing.
+-- `alike::narrow_place` meets its contract. The invariant: the masks are narrowed by the words before i with a wanted target.
 use mathlib.Core.Path.{_≡_, sym, ap, _∙_}
 use mathlib.Core.Logic.{⊎-elim}
-use Prim.Native.Nat.{ℕ, _+_, _-_, _<_}
+use Prim.Native.Nat.{_+_, _-_, _<_}
 use lib.ListN.{getD}
 use Rattle.sets.specs.Sets.{mem}
 use Rattle.woven.specs.Woven.{part}
@@ -18,40 +18,32 @@ Inv-loop words heads f p wanted same₀ at end from i₀ same i = Inside heads f
 abbrev μ-loop : tie.MeasureT-loop
 μ-loop words heads f p wanted same₀ at end from i₀ same i = end - i
 
-place-requires : tie.Need-place-requires Inv-loop μ-loop
-place-requires c κs = search needs
+add-index : tie.Need-add-index Inv-loop μ-loop
+add-index c = omega (arith, c .pre .0 .symbol)
 
-add-place : tie.Need-add-place Inv-loop μ-loop
-add-place c = omega (arith, c .place .ensures, c .before .pre .0 .symbol)
+element-copy-out-index : tie.Need-element-copy-out-index Inv-loop μ-loop
+element-copy-out-index c = omega (arith, c .pre .0 .symbol)
 
-element-copy-out-place : tie.Need-element-copy-out-place Inv-loop μ-loop
-element-copy-out-place c = omega (arith, c .place .ensures, c .before .pre .0 .symbol)
+index-requires : tie.Need-index-requires Inv-loop μ-loop
+index-requires c κs = search needs
 
-place-requires-2 : tie.Need-place-requires-2 Inv-loop μ-loop
-place-requires-2 c κs = search needs
+element-copy-out-index-2 : tie.Need-element-copy-out-index-2 Inv-loop μ-loop
+element-copy-out-index-2 c = omega (arith, c .before .before .pre .0 .symbol)
 
-element-copy-out-place-2 : tie.Need-element-copy-out-place-2 Inv-loop μ-loop
-element-copy-out-place-2 c = omega (arith, c .before .before .place .ensures, c .before .before .before .pre .0 .symbol)
-
-place-requires-3 : tie.Need-place-requires-3 Inv-loop μ-loop
-place-requires-3 c κs = search needs
-
--- Where the words of f begin.
-from-is : (c : tie.After-place3 Inv-loop μ-loop) → let a = c .before .before .before .before .before .args in c .place3 .result ≡ getD (a .heads .now) (a .f) 0
-from-is c = c .place3 .ensures ∙ ap (λ (n : ℕ). getD (c .before .before .before .before .before .args .heads .now) n 0) (c .before .before .before .before .place .ensures)
+index-requires-2 : tie.Need-index-requires-2 Inv-loop μ-loop
+index-requires-2 c κs = search needs
 
 loop-holds : tie.Need-loop-holds Inv-loop μ-loop
 loop-holds c =
-    let start = c .before .before .before .before .before in
-    let a = start .args in
-    let at = c .before .before .before .before .place .ensures in (
-      inside-first (start .pre .0 .indexed) (start .pre .0 .symbol) at (c .before .before .place2 .ensures) (c .place3 .ensures),
-      rw (from-is c) (narrowed-start (a .words .now) (a .heads .now) (a .f) (a .p) (a .wanted) (a .same .now)),
+    let start = c .before .before .before .before in
+    let a = start .args in (
+      inside-first (start .pre .0 .indexed) (start .pre .0 .symbol) (c .before .before .index .ensures) (c .index2 .ensures),
+      rw (c .index2 .ensures) (narrowed-start (a .words .now) (a .heads .now) (a .f) (a .p) (a .wanted) (a .same .now)),
     )
 
 -- The function's entry, from the loop's head.
 abbrev entry : tie.At-loop Inv-loop μ-loop → tie.Start Inv-loop μ-loop
-entry c = c .before .before .before .before .before .before
+entry c = c .before .before .before .before .before
 
 -- The place of the word that is taken.
 word-in : (c : tie.In-loop Inv-loop μ-loop) → c .before .loop .i < 128
@@ -79,7 +71,7 @@ standing-requires c κs =
     let given = start .pre .0 in
     let room = within (start .args .words .now) (start .args .heads .now) (given .indexed) (start .args .f) (given .symbol) in
     let at = top .loop .inv .0 in
-    (omega (arith, at .low, at .high, from-is (top .before)), omega (arith, at .last, room, given .indexed .room), given .argument)
+    (omega (arith, at .low, at .high, top .before .index2 .ensures), omega (arith, at .last, room, given .indexed .room), given .argument)
 
 narrow-all-requires : tie.Need-narrow-all-requires Inv-loop μ-loop
 narrow-all-requires c κs = let at = c .before .before .before .before .before .before .before .before in
@@ -100,7 +92,7 @@ loop-again c =
       inside-next (at .inv .0) (c .before .before .before .before .loop-test .taken),
       ⊎-elim
           (λ w.
-          let stands = rw (from-is (top .before), at .inv .0 .last, w .2 .ensures) at (w .3 .ensures) in
+          let stands = rw (top .before .index2 .ensures, at .inv .0 .last, w .2 .ensures) at (w .3 .ensures) in
           rw (w .5) (narrowed-live (a .words .now) (a .heads .now) (a .f) (a .p) (a .wanted) (at .i) (a .same .now) (at .same) (at .inv .1) (w .3 .result) _ stands (w .4 .ensures)))
           (λ w. rw (w .1) (narrowed-dead (a .words .now) (a .heads .now) (a .f) (a .p) (a .wanted) (at .i) (a .same .now) (at .same) (at .inv .1) (sym wants ∙ w .0 .left)))
           (c .if1 .came),
@@ -120,12 +112,11 @@ narrow-place-spec =
     (tie.spec
     Inv-loop
     μ-loop
-    place-requires
-    add-place
-    element-copy-out-place
-    place-requires-2
-    element-copy-out-place-2
-    place-requires-3
+    add-index
+    element-copy-out-index
+    index-requires
+    element-copy-out-index-2
+    index-requires-2
     loop-holds
     mul-w
     element-copy-out-w

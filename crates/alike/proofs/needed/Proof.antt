@@ -1,4 +1,4 @@
--- `alike::needed` meets its contract: all classes, or the leaders of the masks joined for both sides. Assumes nothing.
+-- `alike::needed` meets its contract: all classes, or the leaders of the masks joined for both sides.
 use Rattle.alike.proofs.Enough.{all-enough, lowest-enough}
 use borrow.Author.Needs.{needs}
 use Rattle.alike.proofs.needed.Statement.{statement}

@@ -1,4 +1,4 @@
--- `alike::rest_of` meets its contract. Assumes nothing.
+-- `alike::rest_of` meets its contract: the argument is no larger than the word.
 use Rattle.alike.proofs.Rests.{rest-taken}
 use borrow.Author.Needs.{needs}
 use Rattle.alike.proofs.rest_of.Statement.{statement}

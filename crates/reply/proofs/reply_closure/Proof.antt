@@ -19,7 +19,9 @@ same-length : tie.Need-same-length
 same-length c = search needs
 
 returns-2 : tie.Need-returns-2
-returns-2 c = placed-written _ _ _ _ _ (ap closureAnswer (c .before .before .before .before .closure .ensures .says)) (c .before .before .before .before .before .if1 .left) (c .before .before .write-closure .ensures)
+returns-2 c =
+    let after = c .before .before .before .before in
+    placed-written _ _ _ _ _ (ap closureAnswer (after .closure .ensures .says)) (after .before .if1 .left) (c .before .before .write-closure .ensures)
 
 pub reply-closure-spec : {M : Type 1} → statement M
 reply-closure-spec = tie.close (tie.spec returns closure-requires write-closure-requires same-length returns-2)

@@ -19,7 +19,9 @@ same-length : tie.Need-same-length
 same-length c = search needs
 
 returns-2 : tie.Need-returns-2
-returns-2 c = placed-written _ _ _ _ _ (ap sharingAnswer (c .before .before .before .before .sharing .ensures)) (c .before .before .before .before .before .if1 .left) (c .before .before .write-sharing .ensures)
+returns-2 c =
+    let after = c .before .before .before .before in
+    placed-written _ _ _ _ _ (ap sharingAnswer (after .sharing .ensures)) (after .before .if1 .left) (c .before .before .write-sharing .ensures)
 
 pub reply-sharing-spec : {M : Type 1} → statement M
 reply-sharing-spec = tie.close (tie.spec returns sharing-requires write-sharing-requires same-length returns-2)

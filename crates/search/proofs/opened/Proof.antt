@@ -1,8 +1,8 @@
--- `search::opened` meets its contract: what is not gone into has no critical pair, or does not lead. Assumes nothing.
+-- `search::opened` meets its contract: what is not gone into has no critical pair, or does not lead.
 use mathlib.Core.Logic.{inl, inr}
 use native.Mathlib.Omega.{arith}
 use borrow.Author.Needs.{needs}
-use Rattle.lanes.specs.Automaton.{automatonOf}
+use Rattle.lanes.specs.Automaton.{wovenAutomaton}
 use Rattle.search.proofs.opened.Statement.{statement}
 use Rattle.search.proofs.opened.Tie as tie
 
@@ -13,7 +13,7 @@ same-length : tie.Need-same-length
 same-length c = search needs
 
 returns : tie.Need-returns
-unfolding automatonOf
+unfolding wovenAutomaton
 returns c =
     let result = c .before .«open» .ensures in (
       λ rule told led.

@@ -1,4 +1,4 @@
--- `search::search` meets its contract: at each loop what is examined is counted and clear, and each way out says what the definition says. Assumes nothing.
+-- `search::search` meets its contract: at each loop what is examined is counted and clear, and each way out says what the definition says.
 mod Invariants
 mod Places
 mod Rules
@@ -9,12 +9,12 @@ use Rattle.search.proofs.search.Statement.{statement}
 use Rattle.search.proofs.search.Tie as tie
 use Rattle.search.proofs.search.Proof.Invariants.{Inv-classes, μ-classes, Inv-lanes, μ-lanes, Inv-third, μ-third, Inv-second, μ-second, Inv-first, μ-first, Inv-search, μ-search}
 use Rattle.search.proofs.search.Proof.Rules.{search-holds, cast-t43, mul-at, add-tokens, sub-tokens, part-tokens-start, part-tokens-end, element-copy-out-v, many-requires}
-use Rattle.search.proofs.search.Proof.Rules.{many-requires-2, many-requires-3, tries-requires, tries-requires-2, tries-requires-3, cast-variables, block-of-requires}
+use Rattle.search.proofs.search.Proof.Rules.{many-requires-2, many-requires-3, tries-requires, tries-requires-2, tries-requires-3, cast-variables, sheet-of-requires}
 use Rattle.search.proofs.search.Proof.Rules.{mul-right, leading-requires, leading-requires-2, slice-aggregate-opened, opened-requires, first-holds, add-rule, search-less}
 use Rattle.search.proofs.search.Proof.Rules.{search-again}
 use Rattle.search.proofs.search.Proof.Choices.{has-requires, cast-t58, slice-aggregate-opened-2, opened-requires-2, second-holds, has-requires-2, third-holds, sub-if8}
 use Rattle.search.proofs.search.Proof.Choices.{add-examined-3, add-x1, second-less, second-again, sub-if9, add-examined-4, add-x0, first-less, first-again}
-use Rattle.search.proofs.search.Proof.Lanes.{cast-t66, cast-t67, cast-t68, slice-aggregate-block, block-requires, lanes-holds, add-examined, classes-holds, critical-requires}
+use Rattle.search.proofs.search.Proof.Lanes.{cast-t66, cast-t67, cast-t68, slice-aggregate-batch, batch-requires, lanes-holds, add-examined, classes-holds, critical-requires}
 use Rattle.search.proofs.search.Proof.Lanes.{pair-requires, cast-t80, add-q, classes-less, classes-again, add-j, lanes-less, lanes-again, sub-if7, add-examined-2, add-x2}
 use Rattle.search.proofs.search.Proof.Lanes.{third-less, third-again}
 use Rattle.search.proofs.search.Proof.Ends.{same-length, returns, same-length-2, returns-2, same-length-3, returns-3, same-length-4, returns-4, same-length-5, returns-5}
@@ -51,7 +51,7 @@ search-spec =
     tries-requires-2
     tries-requires-3
     cast-variables
-    block-of-requires
+    sheet-of-requires
     mul-right
     leading-requires
     slice-aggregate-opened
@@ -68,8 +68,8 @@ search-spec =
     cast-t66
     cast-t67
     cast-t68
-    slice-aggregate-block
-    block-requires
+    slice-aggregate-batch
+    batch-requires
     lanes-holds
     add-examined
     classes-holds

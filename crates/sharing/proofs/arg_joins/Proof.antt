@@ -1,4 +1,4 @@
--- `sharing::arg_joins` meets its contract. Assumes nothing.
+-- `sharing::arg_joins` meets its contract: an argument that the symbol has not is related whatever it is.
 use native.Mathlib.Omega.{arith}
 use mathlib.Core.Path.{sym, _∙_}
 use borrow.Author.Tests.{le-leb, lt-leb}
@@ -6,9 +6,6 @@ use Rattle.theory.proofs.Bools.{or-on, or-off}
 use borrow.Author.Needs.{needs}
 use Rattle.sharing.proofs.arg_joins.Statement.{statement}
 use Rattle.sharing.proofs.arg_joins.Tie as tie
-use Rattle.sharing.proofs.arg_joins.Reads as reads
-use Rattle.sharing.proofs.arg_joins.Lts as lts
-use Rattle.sharing.proofs.arg_in.Reads as arg-in-reads
 
 returns : tie.Need-returns
 returns c = sym (or-on _ _ (le-leb _ _ (c .if1 .taken)))
@@ -17,13 +14,13 @@ shared-slice-read-c : tie.Need-shared-slice-read-c
 shared-slice-read-c c = search needs
 
 cast-c : tie.Need-cast-c
-cast-c c = omega (arith, c .before .before .before .before .before .pre .3 (c .before .before .before .before .before .args .i))
+cast-c c = let s = c .before .before .before .before .before in omega (arith, s .pre .small (s .args .i))
 
 mul-arg-in : tie.Need-mul-arg-in
-mul-arg-in c = omega (arith, c .before .before .before .before .before .pre .3 (c .before .before .before .before .before .args .i))
+mul-arg-in c = let s = c .before .before .before .before .before in omega (arith, s .pre .small (s .args .i))
 
 shared-slice-read-arg-in : tie.Need-shared-slice-read-arg-in
-shared-slice-read-arg-in c = omega (arith, c .before .before .before .before .before .before .pre .3 (c .before .before .before .before .before .before .args .i), c .before .before .before .before .before .before .pre .2)
+shared-slice-read-arg-in c = let s = c .before .before .before .before .before .before in omega (arith, s .pre .small (s .args .i), s .pre .masks)
 
 arg-in-requires : tie.Need-arg-in-requires
 arg-in-requires c κs = search needs

@@ -1,4 +1,4 @@
--- `sharing::due` meets its contract: a row that is not due has passed every test. Assumes nothing.
+-- `sharing::due` meets its contract: a row that is not due has passed every test.
 use native.Mathlib.Omega.{arith}
 use mathlib.Core.Path.{sym, subst}
 use mathlib.Core.Bool.{true≢false}

@@ -1,4 +1,4 @@
--- `sharing::pass` meets its contract. The invariant: the rows so far wait for what was got, and the others for what is live. Assumes nothing.
+-- `sharing::pass` meets its contract. The invariant: the rows so far wait for what was got, and the others for what is live.
 use borrow.Author.Count.{below-none, below-more}
 use mathlib.Core.Path.{_≡_, refl, _∙_}
 use Prim.Native.Nat.{ℕ, _-_, _/_, _≤_, _<_}

@@ -1,19 +1,13 @@
--- `sharing::rows_join` meets its contract: each return rewrites with the tests that led there. Assumes nothing.
-use native.Mathlib.Omega.{arith}
-use mathlib.Core.Path.{sym, ap, _∙_}
-use mathlib.Core.Bool.{_||_}
-use lib.Dec.{leb}
+-- `sharing::rows_join` meets its contract: each return rewrites with the tests that led there.
+use mathlib.Core.Path.{sym, _∙_}
+use lib.Dec.{lit<}
 use borrow.Author.Tests.{eq-eqb, ne-eqb}
-use Rattle.sharing.specs.Share.{joins, rel, arg}
+use Rattle.sharing.specs.Share.{joins}
 use Rattle.theory.proofs.Bools.{and-on, and-off}
-use Prim.Native.Nat.{ℕ}
+use Rattle.sharing.proofs.Sharing.{two-bytes, argument-told}
 use borrow.Author.Needs.{needs}
 use Rattle.sharing.proofs.rows_join.Statement.{statement}
 use Rattle.sharing.proofs.rows_join.Tie as tie
-use Rattle.sharing.proofs.rows_join.Reads as reads
-use Rattle.sharing.proofs.rows_join.Lts as lts
-use Rattle.sharing.proofs.arg_joins.Reads as arg-joins-reads
-use Rattle.sharing.proofs.arity.Reads as arity-reads
 
 mul-i : tie.Need-mul-i
 mul-i c = search needs
@@ -37,7 +31,7 @@ add-arg-joins-2 : tie.Need-add-arg-joins-2
 add-arg-joins-2 c = search needs
 
 arg-joins-requires : tie.Need-arg-joins-requires
-arg-joins-requires c κs = (omega (arith, c .before .before .before .before .before .before .before .before .pre .0), omega (arith, c .before .before .before .before .before .before .before .before .pre .1), c .before .before .before .before .before .before .before .before .pre .2, c .before .before .before .before .before .before .before .before .pre .3, c .before .before .before .before .before .before .before .before .pre .4)
+arg-joins-requires c κs = let s = c .before .before .before .before .before .before .before .before in two-bytes (s .pre .0) (s .pre .1) (s .pre .2) 1 (lit< tt)
 
 add-arg-joins-3 : tie.Need-add-arg-joins-3
 add-arg-joins-3 c = search needs
@@ -46,7 +40,7 @@ add-arg-joins-4 : tie.Need-add-arg-joins-4
 add-arg-joins-4 c = search needs
 
 arg-joins-requires-2 : tie.Need-arg-joins-requires-2
-arg-joins-requires-2 c κs = (omega (arith, c .before .before .before .before .before .before .before .before .before .before .pre .0), omega (arith, c .before .before .before .before .before .before .before .before .before .before .pre .1), c .before .before .before .before .before .before .before .before .before .before .pre .2, c .before .before .before .before .before .before .before .before .before .before .pre .3, c .before .before .before .before .before .before .before .before .before .before .pre .4)
+arg-joins-requires-2 c κs = let s = c .before .before .before .before .before .before .before .before .before .before in two-bytes (s .pre .0) (s .pre .1) (s .pre .2) 2 (lit< tt)
 
 add-arg-joins-5 : tie.Need-add-arg-joins-5
 add-arg-joins-5 c = search needs
@@ -55,26 +49,35 @@ add-arg-joins-6 : tie.Need-add-arg-joins-6
 add-arg-joins-6 c = search needs
 
 arg-joins-requires-3 : tie.Need-arg-joins-requires-3
-arg-joins-requires-3 c κs = (omega (arith, c .before .before .before .before .before .before .before .before .before .before .before .before .pre .0), omega (arith, c .before .before .before .before .before .before .before .before .before .before .before .before .pre .1), c .before .before .before .before .before .before .before .before .before .before .before .before .pre .2, c .before .before .before .before .before .before .before .before .before .before .before .before .pre .3, c .before .before .before .before .before .before .before .before .before .before .before .before .pre .4)
+arg-joins-requires-3 c κs = let s = c .before .before .before .before .before .before .before .before .before .before .before .before in two-bytes (s .pre .0) (s .pre .1) (s .pre .2) 3 (lit< tt)
 
 returns : tie.Need-returns
 unfolding joins
 returns c =
-    let a = c .before .before .before .before .before .before .before .before .before .before .before .before .before .args in
-    (c .arg-joins3 .ensures ∙ ap (λ (n : ℕ). leb n 2 || rel (a .pairs .now) (arg (a .merged .now) (a .j) 3) (arg (a .bad .now) (a .m) 3)) (c .before .before .before .before .before .arity .ensures))
-    ∙ sym (and-on _ _ (eq-eqb _ _ (c .before .before .before .before .before .before .if1 .taken)) ∙ and-on _ _ (sym (c .before .before .before .before .arg-joins .ensures ∙ ap (λ (n : ℕ). leb n 0 || rel (a .pairs .now) (arg (a .merged .now) (a .j) 1) (arg (a .bad .now) (a .m) 1)) (c .before .before .before .before .before .arity .ensures)) ∙ c .before .before .before .if2 .taken) ∙ and-on _ _ (sym (c .before .before .arg-joins2 .ensures ∙ ap (λ (n : ℕ). leb n 1 || rel (a .pairs .now) (arg (a .merged .now) (a .j) 2) (arg (a .bad .now) (a .m) 2)) (c .before .before .before .before .before .arity .ensures)) ∙ c .before .if3 .taken))
+    let c3 = c .before .before in
+    let c2 = c3 .before .before in
+    let many = c2 .before .arity .ensures in
+    argument-told 2 _ many (c .arg-joins3 .ensures)
+    ∙ sym (and-on _ _ (eq-eqb _ _ (c2 .before .before .if1 .taken))
+    ∙ and-on _ _ (sym (argument-told 0 _ many (c2 .arg-joins .ensures)) ∙ c3 .before .if2 .taken)
+    ∙ and-on _ _ (sym (argument-told 1 _ many (c3 .arg-joins2 .ensures)) ∙ c .before .if3 .taken))
 
 returns-2 : tie.Need-returns-2
 unfolding joins
 returns-2 c =
-    let a = c .before .before .before .before .before .before .before .before .before .before .before .before .args in
-    sym (and-on _ _ (eq-eqb _ _ (c .before .before .before .before .before .if1 .taken)) ∙ and-on _ _ (sym (c .before .before .before .arg-joins .ensures ∙ ap (λ (n : ℕ). leb n 0 || rel (a .pairs .now) (arg (a .merged .now) (a .j) 1) (arg (a .bad .now) (a .m) 1)) (c .before .before .before .before .arity .ensures)) ∙ c .before .before .if2 .taken) ∙ and-off _ _ (sym (c .before .arg-joins2 .ensures ∙ ap (λ (n : ℕ). leb n 1 || rel (a .pairs .now) (arg (a .merged .now) (a .j) 2) (arg (a .bad .now) (a .m) 2)) (c .before .before .before .before .arity .ensures)) ∙ c .if3 .left))
+    let c3 = c .before in
+    let c2 = c3 .before .before in
+    let many = c2 .before .arity .ensures in
+    sym (and-on _ _ (eq-eqb _ _ (c2 .before .before .if1 .taken))
+    ∙ and-on _ _ (sym (argument-told 0 _ many (c2 .arg-joins .ensures)) ∙ c3 .before .if2 .taken)
+    ∙ and-off _ _ (sym (argument-told 1 _ many (c3 .arg-joins2 .ensures)) ∙ c .if3 .left))
 
 returns-3 : tie.Need-returns-3
 unfolding joins
 returns-3 c =
-    let a = c .before .before .before .before .before .before .before .before .before .before .args in
-    sym (and-on _ _ (eq-eqb _ _ (c .before .before .before .if1 .taken)) ∙ and-off _ _ (sym (c .before .arg-joins .ensures ∙ ap (λ (n : ℕ). leb n 0 || rel (a .pairs .now) (arg (a .merged .now) (a .j) 1) (arg (a .bad .now) (a .m) 1)) (c .before .before .arity .ensures)) ∙ c .if2 .left))
+    let c2 = c .before in
+    let many = c2 .before .arity .ensures in
+    sym (and-on _ _ (eq-eqb _ _ (c2 .before .before .if1 .taken)) ∙ and-off _ _ (sym (argument-told 0 _ many (c2 .arg-joins .ensures)) ∙ c .if2 .left))
 
 returns-4 : tie.Need-returns-4
 unfolding joins

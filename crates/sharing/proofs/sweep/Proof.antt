@@ -1,11 +1,11 @@
--- `sharing::sweep` meets its contract. The invariant: the pairs are as after the visits so far. Assumes nothing.
+-- `sharing::sweep` meets its contract. The invariant: the pairs are as after the visits so far.
 use borrow.Author.Needs.{needs}
 use borrow.Author.Count.{below-none, below-more}
-use mathlib.Core.Path.{_≡_, refl, _∙_, subst}
-use Prim.Native.Nat.{ℕ, _-_, _/_, _≤_}
+use mathlib.Core.Path.{_≡_, refl, _∙_}
+use Prim.Native.Nat.{_-_, _/_, _≤_}
 use lib.ListN.{length}
 use Rattle.sharing.specs.Share.{Grown, Still, SweptTo}
-use Rattle.sharing.proofs.Sharing.{after, none-yet, stays, still-left, still-right}
+use Rattle.sharing.proofs.Sharing.{after, none-yet, closed-by, stays, still-left, still-right}
 use native.Mathlib.Omega.{arith}
 use Rattle.sharing.proofs.sweep.Statement.{statement}
 use Rattle.sharing.proofs.sweep.Tie as tie
@@ -21,7 +21,9 @@ loop-holds c = (search needs, refl, none-yet _ _ _ (c .before .before .before .b
 
 visit-requires : tie.Need-visit-requires Inv-loop μ-loop
 visit-requires c κs =
-    (c .before .before .before .before .before .before .before .pre .0, omega (arith, c .before .loop-test .taken, c .before .before .loop .inv .1), c .before .before .loop .inv .2 .long ∙ c .before .before .before .before .before .before .before .pre .1, c .before .before .before .before .before .before .before .pre .2)
+    let start = c .before .before .before .before .before .before .before in
+    let at = c .before .before .loop in
+    (record { here = start .pre .0; there = omega (arith, c .before .loop-test .taken, at .inv .1); masks = at .inv .2 .long ∙ start .pre .1 }, start .pre .2)
 
 add-m : tie.Need-add-m Inv-loop μ-loop
 add-m c = omega (arith, c .before .before .before .before .loop-test .taken, c .before .before .before .before .before .loop .inv)
@@ -39,7 +41,8 @@ loop-again c =
       refl,
       after (a .merged .now) (a .bad .now) (a .ar .now) (start .pre .2) (a .pairs .now) (at .pairs) (did .last .0) (at .got) (did .result) _ _ _ (at .inv .2) (did .ensures)
           (λ s. below-more _ _
-          (λ m l. stays (a .merged .now) (a .bad .now) (a .ar .now) (start .pre .2) (at .pairs) (did .last .0) (did .result) (a .j) _ (did .ensures) (still-right (a .merged .now) (a .ar .now) (a .j) (at .got) (did .result) s) m
+          (λ m l. stays (a .merged .now) (a .bad .now) (a .ar .now) (start .pre .2) (at .pairs) (did .last .0) (did .result) (a .j) _ (did .ensures)
+          (still-right (a .merged .now) (a .ar .now) (a .j) (at .got) (did .result) s) m
           (at .inv .2 .rest (still-left (a .merged .now) (a .ar .now) (a .j) (at .got) (did .result) s) m l))
           (did .ensures .rest)),
     )
@@ -49,9 +52,9 @@ same-length c = c .before .loop .inv .2 .long
 
 returns : tie.Need-returns Inv-loop μ-loop
 returns c =
-    let a = c .before .before .before .before .before .before .args in
+    let start = c .before .before .before .before .before .before in
     let at = c .before .loop in
-    subst (λ (k : ℕ). Grown (a .merged .now) (a .bad .now) (a .ar .now) (a .pairs .now) (at .pairs) (at .got) (Still (a .merged .now) (a .ar .now) (at .got) (a .j) → SweptTo (a .merged .now) (a .bad .now) (a .ar .now) (at .pairs) (a .j) k)) (omega (arith, at .inv .0, at .inv .1, c .loop-test .left)) (at .inv .2)
+    closed-by _ _ _ (start .pre .2) (start .args .pairs .now) (at .pairs) (at .got) _ _ (at .inv .2) (λ s m l. at .inv .2 .rest s m (omega (arith, at .inv .1, c .loop-test .left)))
 
 pub sweep-spec : {M : Type 1} → statement M
 sweep-spec =

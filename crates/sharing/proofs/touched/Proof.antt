@@ -1,4 +1,4 @@
--- `sharing::touched` meets its contract. Assumes nothing.
+-- `sharing::touched` meets its contract: an argument that the symbol has not touches nothing.
 use borrow.Author.Needs.{needs}
 use native.Mathlib.Omega.{arith}
 use mathlib.Core.Path.{sym, _∙_}

@@ -1,4 +1,4 @@
--- `sharing::turn` meets its contract: a row that is not due rests already. Assumes nothing.
+-- `sharing::turn` meets its contract: a row that is not due rests already.
 use Rattle.sharing.proofs.Sharing.{none-yet}
 use borrow.Author.Needs.{needs}
 use Rattle.sharing.proofs.turn.Statement.{statement}

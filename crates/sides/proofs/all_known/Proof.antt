@@ -1,3 +1,4 @@
+-- A pass looks for a variable that is not below v.
 use mathlib.Core.Path.{_≡_, sym, _∙_}
 use Rattle.sides.specs.Tokens.{noStrange}
 use Rattle.sides.proofs.PassLaws.{strange-here, strange-not, strange-end}
@@ -9,17 +10,14 @@ use Rattle.sides.proofs.all_known.Statement.{statement}
 use Rattle.sides.proofs.all_known.Tie as tie
 
 abbrev Inv-loop : tie.InvT-loop
-Inv-loop count v items i₀ i =
-    (i ≤ count) × (noStrange v (drop i (take count items)) ≡ noStrange v (take count items))
+Inv-loop count v tokens i₀ i =
+    (i ≤ count) × (noStrange v (drop i (take count tokens)) ≡ noStrange v (take count tokens))
 
 abbrev μ-loop : tie.MeasureT-loop
-μ-loop count v items i₀ i = count - i
+μ-loop count v tokens i₀ i = count - i
 
 loop-holds : tie.Need-loop-holds Inv-loop μ-loop
 loop-holds c = search needs
-
-mul-c : tie.Need-mul-c Inv-loop μ-loop
-mul-c c = search needs
 
 array-read-c : tie.Need-array-read-c Inv-loop μ-loop
 array-read-c c = search needs
@@ -60,7 +58,6 @@ all-known-spec =
     Inv-loop
     μ-loop
     loop-holds
-    mul-c
     array-read-c
     is-strange-requires
     returns

@@ -1,3 +1,4 @@
+-- A pass from the left counts the variables as long as they come in order.
 use mathlib.Core.Path.{_≡_, sym, _∙_}
 use Rattle.sides.specs.Tokens.{lined}
 use Rattle.sides.proofs.PassLaws.{lined-more, lined-broken, lined-end, step-most}
@@ -9,17 +10,14 @@ use Rattle.sides.proofs.line_up.Statement.{statement}
 use Rattle.sides.proofs.line_up.Tie as tie
 
 abbrev Inv-loop : tie.InvT-loop
-Inv-loop count items v₀ i₀ v i =
-    (i ≤ count) × (v ≤ i) × (lined v (drop i (take count items)) ≡ lined 0 (take count items))
+Inv-loop count tokens v₀ i₀ v i =
+    (i ≤ count) × (v ≤ i) × (lined v (drop i (take count tokens)) ≡ lined 0 (take count tokens))
 
 abbrev μ-loop : tie.MeasureT-loop
-μ-loop count items v₀ i₀ v i = count - i
+μ-loop count tokens v₀ i₀ v i = count - i
 
 loop-holds : tie.Need-loop-holds Inv-loop μ-loop
 loop-holds c = search needs
-
-mul-c : tie.Need-mul-c Inv-loop μ-loop
-mul-c c = search needs
 
 array-read-c : tie.Need-array-read-c Inv-loop μ-loop
 array-read-c c = search needs
@@ -69,7 +67,6 @@ line-up-spec =
     Inv-loop
     μ-loop
     loop-holds
-    mul-c
     array-read-c
     next-in-line-requires
     enum-known-o

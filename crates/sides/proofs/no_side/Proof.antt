@@ -1,3 +1,4 @@
+-- A refused side's tokens are zeros.
 use mathlib.Core.Path.{refl}
 use Rattle.sides.specs.Tokens.{noSide}
 use Rattle.sides.proofs.no_side.Statement.{statement}

@@ -1,4 +1,4 @@
--- `values::gain` meets its contract. Assumes nothing.
+-- `values::gain` meets its contract: the lanes where all arguments of the word are in their sheets, for none to three arguments.
 use mathlib.Core.Path.{_≡_, sym, ap, _∙_}
 use mathlib.Core.Bool.{_||_, or-true}
 use Prim.Native.Nat.{_+_, _<_}

@@ -1,4 +1,4 @@
--- `values::gather` meets its contract. The invariant: the rows before q are done, and the words from place i on are those with targets from q on. Assumes nothing.
+-- `values::gather` meets its contract. The invariant: the rows before q are done, and the words from place i on are those with targets from q on.
 use Prim.Native.Nat.{_+_, _-_, _<_}
 use lib.ListN.{length}
 use Rattle.values.proofs.Gathering.{RowsDone, rows-begun, rows-runnable, rows-more, rows-all}
@@ -13,31 +13,27 @@ Inv-loop words heads f n k m₀ kids out at end i₀ q₀ m i q = RowsDone words
 abbrev μ-loop : tie.MeasureT-loop
 μ-loop words heads f n k m₀ kids out at end i₀ q₀ m i q = k - q
 
-place-requires : tie.Need-place-requires Inv-loop μ-loop
-place-requires c κs = search needs
+add-index : tie.Need-add-index Inv-loop μ-loop
+add-index c = omega (arith, c .pre .symbol)
 
-add-place : tie.Need-add-place Inv-loop μ-loop
-add-place c = omega (arith, c .place .ensures, c .before .pre .symbol)
+element-copy-out-index : tie.Need-element-copy-out-index Inv-loop μ-loop
+element-copy-out-index c = omega (arith, c .pre .symbol)
 
-element-copy-out-place : tie.Need-element-copy-out-place Inv-loop μ-loop
-element-copy-out-place c = omega (arith, c .place .ensures, c .before .pre .symbol)
+index-requires : tie.Need-index-requires Inv-loop μ-loop
+index-requires c κs = search needs
 
-place-requires-2 : tie.Need-place-requires-2 Inv-loop μ-loop
-place-requires-2 c κs = search needs
+element-copy-out-index-2 : tie.Need-element-copy-out-index-2 Inv-loop μ-loop
+element-copy-out-index-2 c = omega (arith, c .before .before .pre .symbol)
 
-element-copy-out-place-2 : tie.Need-element-copy-out-place-2 Inv-loop μ-loop
-element-copy-out-place-2 c = omega (arith, c .before .before .place .ensures, c .before .before .before .pre .symbol)
-
-place-requires-3 : tie.Need-place-requires-3 Inv-loop μ-loop
-place-requires-3 c κs = search needs
+index-requires-2 : tie.Need-index-requires-2 Inv-loop μ-loop
+index-requires-2 c κs = search needs
 
 loop-holds : tie.Need-loop-holds Inv-loop μ-loop
-loop-holds c =
-    rows-begun (c .before .before .before .before .before .pre) (c .before .before .before .before .place .ensures) (c .before .before .place2 .ensures) (c .place3 .ensures)
+loop-holds c = rows-begun (c .before .before .before .before .pre) (c .before .before .index .ensures) (c .index2 .ensures)
 
 -- The function's entry, from the loop's head.
 abbrev entry : tie.At-loop Inv-loop μ-loop → tie.Start Inv-loop μ-loop
-entry c = c .before .before .before .before .before .before
+entry c = c .before .before .before .before .before
 
 run-requires : tie.Need-run-requires Inv-loop μ-loop
 run-requires c κs = let at = c .before .before in rows-runnable (entry at .pre) (at .loop .inv)
@@ -78,12 +74,11 @@ gather-spec =
     (tie.spec
     Inv-loop
     μ-loop
-    place-requires
-    add-place
-    element-copy-out-place
-    place-requires-2
-    element-copy-out-place-2
-    place-requires-3
+    add-index
+    element-copy-out-index
+    index-requires
+    element-copy-out-index-2
+    index-requires-2
     loop-holds
     run-requires
     add-lanes

@@ -1,4 +1,4 @@
--- `values::join` meets its contract. The invariant: the words before y are joined. Assumes nothing.
+-- `values::join` meets its contract. The invariant: the words before y are joined.
 use mathlib.Core.Path.{refl}
 use Prim.Native.Nat.{_≤_, _-_}
 use Rattle.values.proofs.Rows.{Each, none-yet, one-more, word, joined}

@@ -1,4 +1,4 @@
--- `values::keep` meets its contract. Assumes nothing.
+-- `values::keep` meets its contract: a term's end is noted only where all of its arguments are kept.
 use mathlib.Core.Path.{refl}
 use native.Mathlib.Omega.{arith}
 use borrow.Author.Needs.{needs}

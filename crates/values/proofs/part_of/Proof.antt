@@ -1,4 +1,4 @@
--- `values::part_of` meets its contract. Assumes nothing.
+-- `values::part_of` meets its contract: six low digits of a byte of the word.
 use mathlib.Core.Path.{refl}
 use Prim.Native.Nat.{_*_, _/_, _^_}
 use native.Mathlib.Nat.{mod-lt}

@@ -1,4 +1,4 @@
--- `values::run` meets its contract. The invariant: the words before i have the target q, and their lanes are joined. Assumes nothing.
+-- `values::run` meets its contract. The invariant: the words before i have the target q, and their lanes are joined.
 use mathlib.Core.Path.{_∙_, sym}
 use Prim.Native.Nat.{_-_, _≤_, _<_}
 use Rattle.values.specs.Rows.{Joined}

@@ -17,7 +17,12 @@ cast-t8 c = search needs
 
 returns : tie.Need-returns
 unfolding seven shown dash bytes
-returns c = says-short refl (omega (arith, three (c .before .before .args .pair .rule) (omega arith), fifteen (c .before .before .args .pair) (omega arith) (omega arith) (omega arith) (omega arith), three (c .before .before .args .pair .class) (omega arith), ten (c .before .before .args .examined) (omega arith)))
+returns c =
+    let rule = three (c .before .before .args .pair .rule) (omega arith) in
+    let classes = fifteen (c .before .before .args .pair) (omega arith) (omega arith) (omega arith) (omega arith) in
+    let class = three (c .before .before .args .pair .class) (omega arith) in
+    let examined = ten (c .before .before .args .examined) (omega arith) in
+    says-short refl (omega arith)
 
 pub found-spec : {M : Type 1} → statement M
 found-spec = tie.close (tie.spec cast-t5 cast-t8 returns)

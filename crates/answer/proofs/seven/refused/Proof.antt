@@ -15,7 +15,10 @@ shown-line-requires c κs = search needs
 
 returns : tie.Need-returns
 unfolding seven shown dash bytes
-returns c = says-short (rw (c .shown-line .ensures)) (omega (arith, ap length (c .shown-line .ensures), three (c .before .args .number) (omega arith), ten-or-dash (c .before .args .line) (omega arith)))
+returns c =
+    let number = three (c .before .args .number) (omega arith) in
+    let line = ten-or-dash (c .before .args .line) (omega arith) in
+    says-short (rw (c .shown-line .ensures)) (omega (arith, ap length (c .shown-line .ensures)))
 
 pub refused-spec : {M : Type 1} → statement M
 refused-spec = tie.close (tie.spec shown-line-requires returns)

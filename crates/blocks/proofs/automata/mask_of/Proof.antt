@@ -1,3 +1,4 @@
+-- The mask of the first n numbers.
 use Rattle.sets.specs.Sets.{mem, plus}
 use Prim.Native.Nat.{_-_, _≤_, _<_, _^_}
 use mathlib.Core.Path.{_≡_, refl, sym, ap, _∙_}
@@ -10,7 +11,8 @@ use Rattle.blocks.proofs.automata.mask_of.Statement.{statement}
 use Rattle.blocks.proofs.automata.mask_of.Tie as tie
 
 abbrev Inv-loop : tie.InvT-loop
-Inv-loop n items mask₀ i₀ mask i = (i ≤ n) × (mask < 2 ^ 64) × (maskFrom mask (drop i (take n items)) ≡ maskFrom 0 (take n items))
+Inv-loop n items mask₀ i₀ mask i =
+    (i ≤ n) × (mask < 2 ^ 64) × (maskFrom mask (drop i (take n items)) ≡ maskFrom 0 (take n items))
 
 abbrev μ-loop : tie.MeasureT-loop
 μ-loop n items mask₀ i₀ mask i = n - i
@@ -18,17 +20,14 @@ abbrev μ-loop : tie.MeasureT-loop
 loop-holds : tie.Need-loop-holds Inv-loop μ-loop
 loop-holds c = (omega arith, omega arith, refl)
 
-mul-long : tie.Need-mul-long Inv-loop μ-loop
-mul-long c = search needs
+array-read-number : tie.Need-array-read-number Inv-loop μ-loop
+array-read-number c = search needs
 
-array-read-long : tie.Need-array-read-long Inv-loop μ-loop
-array-read-long c = search needs
-
-long-requires : tie.Need-long-requires Inv-loop μ-loop
-long-requires c κs = search needs
+number-requires : tie.Need-number-requires Inv-loop μ-loop
+number-requires c κs = search needs
 
 with-requires : tie.Need-with-requires Inv-loop μ-loop
-with-requires c κs = omega (arith, c .long .ensures, c .before .before .before .pre .1 (c .before .before .loop .i))
+with-requires c κs = omega (arith, c .number .ensures, c .before .before .before .pre .1 (c .before .before .loop .i))
 
 add-i : tie.Need-add-i Inv-loop μ-loop
 add-i c = search needs
@@ -40,9 +39,9 @@ loop-again : tie.Need-loop-again Inv-loop μ-loop
 loop-again c =
     let l = c .before .before .before .loop in
     let t = c .before .before .loop-test .taken in
-    let q = c .before .long .ensures in
     let low = c .before .before .before .before .pre .1 (l .i) in
-    (omega (arith, t), search needs, mask-more _ _ (l .i) (l .mask) _ (search needs) t (mask-with (l .mask) _ _ (l .inv .1) (search needs) (omega (arith, low)) (c .with .ensures .0 ∙ ap (λ k. plus (mem (l .mask)) k) q)) ∙ l .inv .2)
+    let more = mask-with (l .mask) _ _ (l .inv .1) (search needs) (omega (arith, low)) (c .with .ensures .0 ∙ ap (λ k. plus (mem (l .mask)) k) (c .before .number .ensures)) in
+    (omega (arith, t), search needs, mask-more _ _ (l .i) (l .mask) _ (search needs) t more ∙ l .inv .2)
 
 returns : tie.Need-returns Inv-loop μ-loop
 returns c = sym (mask-end _ _ (c .before .loop .i) (c .before .loop .mask) (search needs) (c .loop-test .left)) ∙ c .before .loop .inv .2
@@ -54,9 +53,8 @@ mask-of-spec =
     Inv-loop
     μ-loop
     loop-holds
-    mul-long
-    array-read-long
-    long-requires
+    array-read-number
+    number-requires
     with-requires
     add-i
     loop-less

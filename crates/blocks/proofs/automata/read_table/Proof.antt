@@ -1,17 +1,14 @@
-use Rattle.fields.specs.Line.{kindAt}
+-- An automaton's lines, one after another.
 use Rattle.blocks.specs.Packed.{tableOf, noTable}
-use Rattle.blocks.specs.Draft.{fromFinal, automaton}
-use Rattle.blocks.proofs.Chain.{then-next, then-stop, field-range, handed-same, handed-stop}
-use Rattle.blocks.proofs.Steps.{number-read, number-refused, went-near}
+use Rattle.blocks.specs.Draft.{fromTrans, fromFinal, automaton}
+use Rattle.blocks.proofs.Chain.{number-refused, number-read, number-range, number-placed, list-refused, list-read, list-whole, handed-next, handed-first}
 use native.Mathlib.Omega.{arith}
 use borrow.Author.Needs.{needs}
 use Rattle.blocks.proofs.automata.read_table.Statement.{statement}
 use Rattle.blocks.proofs.automata.read_table.Tie as tie
 
 number-line-requires : tie.Need-number-line-requires
-number-line-requires c κs =
-    let s = c .before .before .before .before .before in
-    omega (arith, s .pre .0 .kinds)
+number-line-requires c κs = let p = c .before .pre in (omega (arith, p .0 .kinds), p .2)
 
 enum-known-f : tie.Need-enum-known-f
 enum-known-f c = search needs
@@ -28,27 +25,60 @@ no-table-requires c κs = search needs
 returns : tie.Need-returns
 unfolding automaton
 returns c =
-    let s = c .before .before .before .before .before .before .before .before .before .before in
-    handed-stop _ _ tableOf noTable _ _ _ _ _ (c .no-table .ensures .0) (c .no-table .ensures .1)
-    (then-stop _ (fromFinal _ _ _ _) _ _ _ _ (number-refused _ (kindAt (s .args .kind)) _ (s .pre .1 .0 .0) _ _ _ (c .before .before .before .before .number-line .ensures .0) _ _ (c .before .field-refusal .ensures) (c .before .before .enum-told .given .1)))
+    handed-first _ tableOf noTable _ (fromFinal _ _ _ _) _ _ _ _ _ _ (c .no-table .ensures .0) (c .no-table .ensures .1)
+    (number-refused _ _ _ _ (c .before .before .before .before .number-line .ensures) _ _ (c .before .before .enum-told .given .1) (c .before .field-refusal .ensures))
 
-add-from-final : tie.Need-add-from-final
-add-from-final c = search needs
+add-final-line : tie.Need-add-final-line
+add-final-line c = search needs
 
-from-final-requires : tie.Need-from-final-requires
-from-final-requires c κs =
-    let s = c .before .before .before .before .before .before .before .before .before in
-    let r = field-range _ _ (kindAt (s .args .kind)) _ _ (c .before .before .before .number-line .ensures .0) _ _ (c .before .f .given .1) in
-    let p = s .pre .1 .0 in
-    (s .pre .0, ((p .1, p .2, p .3), ((s .pre .1 .1 .0 .0, s .pre .1 .1 .0 .1, omega (arith, r .0, s .pre .0 .most-states .0), omega (arith, r .1, s .pre .0 .most-states .1)), (s .pre .1 .1 .1 .0, (s .pre .1 .1 .1 .1 .0, omega (arith, s .pre .1 .1 .1 .1 .1))))))
+final-line-requires : tie.Need-final-line-requires
+final-line-requires c κs =
+    let l = c .before .before .before .number-line .ensures in
+    let e = c .before .f .given .1 in
+    let p = c .before .before .before .before .before .pre .0 in
+    let r = number-range _ _ _ _ l _ _ e in
+    ((omega (arith, p .kinds), p .final), ((omega (arith, r .0, p .most-states .0), omega (arith, r .1, p .most-states .1)), number-placed _ _ _ _ l _ _ e))
+
+enum-known-answer : tie.Need-enum-known-answer
+enum-known-answer c = search needs
+
+enum-told-2 : tie.Need-enum-told-2
+enum-told-2 c = search needs
+
+list-refusal-requires : tie.Need-list-refusal-requires
+list-refusal-requires c κs = search needs
+
+no-table-requires-2 : tie.Need-no-table-requires-2
+no-table-requires-2 c κs = search needs
 
 returns-2 : tie.Need-returns-2
-unfolding automaton
+unfolding automaton fromFinal
 returns-2 c =
-    let s = c .before .before .before .before .before .before .before .before .before .before in
-    let e = number-read _ (kindAt (s .args .kind)) _ (s .pre .1 .0 .0) (s .args .line) _ _ (c .before .before .before .before .number-line .ensures .0) _ _ (c .before .before .f .given .1) in
-    handed-same _ _ tableOf noTable _ _ _ _ (then-next _ (fromFinal _ _ _ _) _ _ _ _ _ e)
-    (went-near _ _ _ tableOf noTable _ _ _ (omega arith) (c .from-final .ensures))
+    let k = c .before .before .before .before in
+    handed-next _ tableOf noTable _ (fromFinal _ _ _ _) _ _ _ _ _ _ _ (number-read _ _ _ _ (k .before .before .before .before .number-line .ensures) _ _ (k .before .before .f .given .1))
+    (handed-first _ tableOf noTable _ (fromTrans _ _ _ _) _ _ _ _ _ _ (c .no-table2 .ensures .0) (c .no-table2 .ensures .1)
+    (list-refused _ _ _ _ _ (k .final-line .ensures) _ _ (c .before .before .enum-told2 .given .1) (c .before .list-refusal .ensures)))
+
+mask-of-requires : tie.Need-mask-of-requires
+mask-of-requires c κs =
+    let w = list-whole _ _ _ _ _ (c .before .before .before .before .final-line .ensures) _ _ _ (c .before .before .answer .given .1) in
+    (w .few, λ k. omega (arith, w .low k))
+
+from-trans-requires : tie.Need-from-trans-requires
+from-trans-requires c κs =
+    let k = c .before .before .before .before .before in
+    let p = k .before .before .before .before .before .before .pre in
+    let r = number-range _ _ _ _ (k .before .before .before .before .number-line .ensures) _ _ (k .before .before .f .given .1) in
+    let w = list-whole _ _ _ _ _ (k .final-line .ensures) _ _ _ (c .before .before .before .answer .given .1) in
+    ((p .0, p .1, w .placed), (omega (arith, r .0, p .0 .most-states .0), omega (arith, r .1, p .0 .most-states .1)))
+
+returns-3 : tie.Need-returns-3
+unfolding automaton fromFinal
+returns-3 c =
+    let k = c .before .before .before .before .before .before in
+    handed-next _ tableOf noTable _ (fromFinal _ _ _ _) _ _ _ _ _ _ _ (number-read _ _ _ _ (k .before .before .before .before .number-line .ensures) _ _ (k .before .before .f .given .1))
+    (handed-next _ tableOf noTable _ (fromTrans _ _ _ _) _ _ _ _ _ _ _ (list-read _ _ _ _ _ (k .final-line .ensures) _ _ _ (c .before .before .before .before .answer .given .1))
+    (c .from-trans .ensures _ (c .before .mask-of .ensures)))
 
 pub read-table-spec : {M : Type 1} → statement M
 read-table-spec =
@@ -60,6 +90,13 @@ read-table-spec =
     field-refusal-requires
     no-table-requires
     returns
-    add-from-final
-    from-final-requires
-    returns-2)
+    add-final-line
+    final-line-requires
+    enum-known-answer
+    enum-told-2
+    list-refusal-requires
+    no-table-requires-2
+    returns-2
+    mask-of-requires
+    from-trans-requires
+    returns-3)

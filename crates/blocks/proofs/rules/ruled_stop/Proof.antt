@@ -1,3 +1,4 @@
+-- A rule's refusal, as the block's.
 use mathlib.Core.Path.{sym, ap}
 use Rattle.blocks.specs.Handed.{ruledStop}
 use borrow.Author.Needs.{needs}
@@ -11,11 +12,9 @@ enum-known-a : tie.Need-enum-known-a
 enum-known-a c = search needs
 
 returns : tie.Need-returns
-unfolding ruledStop
-returns c = sym (ap ruledStop (c .enum-told .given .1))
+returns c = search needs
 
 returns-2 : tie.Need-returns-2
-unfolding ruledStop
 returns-2 c = sym (ap ruledStop (c .before .a .given .1))
 
 pub ruled-stop-spec : {M : Type 1} → statement M

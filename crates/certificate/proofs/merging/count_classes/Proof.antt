@@ -1,3 +1,4 @@
+-- The number of classes: the largest entry so far, and the entries that are left.
 use mathlib.Core.Path.{_≡_, _∙_}
 use Prim.Native.Nat.{_-_, _≤_, _<_, max}
 use lib.ListN.{take, drop}
@@ -17,9 +18,6 @@ abbrev μ-loop : tie.MeasureT-loop
 loop-holds : tie.Need-loop-holds Inv-loop μ-loop
 loop-holds c = (omega arith, omega arith, omega arith)
 
-mul-larger : tie.Need-mul-larger Inv-loop μ-loop
-mul-larger c = search needs
-
 array-read-larger : tie.Need-array-read-larger Inv-loop μ-loop
 array-read-larger c = search needs
 
@@ -36,19 +34,18 @@ loop-again : tie.Need-loop-again Inv-loop μ-loop
 loop-again c =
     let l = c .before .before .loop in
     let t = c .before .loop-test .taken in
-    let low = c .before .before .before .pre .1 (l .i) in
-    (omega (arith, t), omega (arith, c .larger .ensures, low, l .inv .1), largest-more _ _ (l .i) (search needs) (l .most) _ t (c .larger .ensures) ∙ l .inv .2)
+    (omega (arith, t), omega (arith, c .larger .ok), largest-more _ _ (l .i) (search needs) (l .most) _ t (c .larger .ensures) ∙ l .inv .2)
 
-wide-requires : tie.Need-wide-requires Inv-loop μ-loop
-wide-requires c κs = search needs
+index-requires : tie.Need-index-requires Inv-loop μ-loop
+index-requires c κs = search needs
 
 add-result : tie.Need-add-result Inv-loop μ-loop
-add-result c = omega (arith, c .wide .ensures, c .before .before .loop .inv .1)
+add-result c = omega (arith, c .index .ensures, c .before .before .loop .inv .1)
 
 returns : tie.Need-returns Inv-loop μ-loop
 returns c =
     let l = c .before .before .loop in
-    largest-end _ _ (l .i) (search needs) (l .most) _ (c .before .loop-test .left) (c .wide .ensures) (l .inv .2)
+    largest-end _ _ (l .i) (search needs) (l .most) _ (c .before .loop-test .left) (c .index .ensures) (l .inv .2)
 
 pub count-classes-spec : {M : Type 1} → statement M
 count-classes-spec =
@@ -57,12 +54,11 @@ count-classes-spec =
     Inv-loop
     μ-loop
     loop-holds
-    mul-larger
     array-read-larger
     larger-requires
     add-i
     loop-less
     loop-again
-    wide-requires
+    index-requires
     add-result
     returns)

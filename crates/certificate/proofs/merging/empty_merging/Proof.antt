@@ -1,3 +1,4 @@
+-- No merging: zeros.
 use mathlib.Core.Path.{refl}
 use Rattle.fields.specs.Padded.{padded}
 use Rattle.blocks.specs.Packed.{noMerging}

@@ -1,3 +1,4 @@
+-- No tables: no automata, no rules, and zeros.
 use Rattle.fields.specs.Padded.{padded}
 use Rattle.blocks.specs.Packed.{noTables}
 use borrow.Author.Needs.{needs}

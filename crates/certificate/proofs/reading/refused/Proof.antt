@@ -1,3 +1,4 @@
+-- A refusal: no tables and no merging beside it.
 use Rattle.certificate.specs.Read.{refusedRead}
 use borrow.Author.Needs.{needs}
 use Rattle.certificate.proofs.reading.refused.Statement.{statement}

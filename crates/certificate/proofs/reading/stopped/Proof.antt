@@ -1,3 +1,4 @@
+-- The refusal of a part is the refusal of the file.
 use mathlib.Core.Path.{sym, ap, _∙_}
 use Rattle.certificate.specs.Read.{stopRead}
 use borrow.Author.Needs.{needs}

@@ -5,7 +5,7 @@ use borrow.Author.Needs.{needs}
 use Rattle.paper.specs.Computed.{sharingIn, sharingOf}
 use Rattle.certificate.proofs.Sound.{read-sound}
 use Rattle.verdicts.specs.Said.{saidSharing}
-use Rattle.checker.proofs.Judged.{asked-refused, asked-read}
+use Rattle.checker.proofs.FromReading.{asked-refused, asked-read}
 use Rattle.checker.proofs.first_question.sharing.Statement.{statement}
 use Rattle.checker.proofs.first_question.sharing.Tie as tie
 
@@ -17,12 +17,15 @@ unfolding saidSharing sharingOf
 returns c = asked-refused (now (c .before .before .before .before .args .file)) _ (c .before .before .read .ensures) sharingIn (c .if1 .taken)
 
 sharing-requires : tie.Need-sharing-requires
-sharing-requires c κs = read-sound (now (c .before .before .before .before .before .before .args .file)) _ (c .before .before .before .before .read .ensures) (c .before .before .if1 .left)
+sharing-requires c κs =
+    let after = c .before .before .before .before in
+    read-sound (now (after .before .before .args .file)) _ (after .read .ensures) (c .before .before .if1 .left)
 
 returns-2 : tie.Need-returns-2
 unfolding sharingOf
 returns-2 c =
-    let read = asked-read (now (c .before .before .before .before .before .before .before .args .file)) _ (c .before .before .before .before .before .read .ensures) sharingIn (c .before .before .before .if1 .left) in
+    let after = c .before .before .before .before .before in
+    let read = asked-read (now (after .before .before .args .file)) _ (after .read .ensures) sharingIn (c .before .before .before .if1 .left) in
     c .sharing .ensures ∙ read
 
 pub sharing-spec : {M : Type 1} → statement M

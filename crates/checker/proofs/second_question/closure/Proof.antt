@@ -5,7 +5,7 @@ use borrow.Author.Needs.{needs}
 use Rattle.paper.specs.Computed.{closureIn, closureOf}
 use Rattle.certificate.proofs.Sound.{read-sound}
 use Rattle.verdicts.specs.Said.{saidClosure, EndedIn}
-use Rattle.checker.proofs.Judged.{asked-refused, asked-read}
+use Rattle.checker.proofs.FromReading.{asked-refused, asked-read}
 use Rattle.checker.proofs.second_question.closure.Statement.{statement}
 use Rattle.checker.proofs.second_question.closure.Tie as tie
 
@@ -17,12 +17,15 @@ unfolding saidClosure EndedIn closureOf
 returns c = record { says = asked-refused (now (c .before .before .before .before .args .file)) _ (c .before .before .read .ensures) closureIn (c .if1 .taken); ended = tt }
 
 closure-requires : tie.Need-closure-requires
-closure-requires c κs = read-sound (now (c .before .before .before .before .before .before .args .file)) _ (c .before .before .before .before .read .ensures) (c .before .before .if1 .left)
+closure-requires c κs =
+    let after = c .before .before .before .before in
+    read-sound (now (after .before .before .args .file)) _ (after .read .ensures) (c .before .before .if1 .left)
 
 returns-2 : tie.Need-returns-2
 unfolding closureOf
 returns-2 c =
-    let read = asked-read (now (c .before .before .before .before .before .before .before .args .file)) _ (c .before .before .before .before .before .read .ensures) closureIn (c .before .before .before .if1 .left) in
+    let after = c .before .before .before .before .before in
+    let read = asked-read (now (after .before .before .args .file)) _ (after .read .ensures) closureIn (c .before .before .before .if1 .left) in
     let found = c .closure .ensures in
     record { says = found .says ∙ read; ended = found .ended }
 

@@ -1,3 +1,4 @@
+-- `arg_in`: the number before the last, else 0.
 use Rattle.fields.specs.Trans.{argIn}
 use borrow.Author.Tests.{lt-ltb, le-ltb}
 use borrow.Author.Needs.{needs}

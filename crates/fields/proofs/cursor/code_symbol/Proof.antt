@@ -1,23 +1,26 @@
-use Rattle.fields.proofs.TokenLaws.{code-refused, code-1, below-of}
-use native.Mathlib.Omega.{arith}
+-- `code_symbol`: a symbol below 64 is its own byte, any other is 255.
+use Rattle.fields.proofs.TokenLaws.{coded-fault, coded-read, symbol-in, symbol-out}
 use borrow.Author.Needs.{needs}
 use Rattle.fields.proofs.cursor.code_symbol.Statement.{statement}
 use Rattle.fields.proofs.cursor.code_symbol.Tie as tie
 
-enum-known-f : tie.Need-enum-known-f
-enum-known-f c = search needs
+enum-known-e : tie.Need-enum-known-e
+enum-known-e c = search needs
 
 enum-told : tie.Need-enum-told
 enum-told c = search needs
 
 returns : tie.Need-returns
-returns c = code-refused _ 1 _ (c .enum-told .given .1)
+returns c = coded-fault _ 1 (c .enum-told .given .1)
 
-add-t4 : tie.Need-add-t4
-add-t4 c = omega (arith, below-of _ _ _ (c .before .f .given .1) (c .before .before .before .pre))
+cast-if1 : tie.Need-cast-if1
+cast-if1 c = search needs
 
 returns-2 : tie.Need-returns-2
-returns-2 c = code-1 _ _ _ (c .before .f .given .1)
+returns-2 c = coded-read _ 1 _ _ _ (c .before .before .e .given .1) (symbol-in _ (c .if1 .taken))
+
+returns-3 : tie.Need-returns-3
+returns-3 c = coded-read _ 1 _ _ _ (c .before .before .e .given .1) (symbol-out _ (c .if1 .left))
 
 pub code-symbol-spec : {M : Type 1} → statement M
-code-symbol-spec = tie.close (tie.spec enum-known-f enum-told returns add-t4 returns-2)
+code-symbol-spec = tie.close (tie.spec enum-known-e enum-told returns cast-if1 returns-2 returns-3)

@@ -1,3 +1,4 @@
+-- `end_number`: a number ends where it has a digit.
 use Rattle.fields.specs.Number.{ended}
 use borrow.Author.Tests.{eq-eqb, ne-eqb}
 use Rattle.fields.proofs.cursor.end_number.Statement.{statement}

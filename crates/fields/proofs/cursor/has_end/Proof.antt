@@ -1,3 +1,4 @@
+-- `has_end`: no LF stands before `at`.
 use Rattle.fields.proofs.LineLaws.{ends-not, ends-here, ends-later}
 use Rattle.fields.specs.Line.{hasEnd}
 use lib.ListN.{length, drop}

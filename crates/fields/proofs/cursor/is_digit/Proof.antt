@@ -1,3 +1,4 @@
+-- `is_digit`: the two tests are the definition's.
 use Rattle.fields.specs.Number.{isDigit}
 use borrow.Author.Tests.{lt-leb, le-leb}
 use Rattle.fields.proofs.cursor.is_digit.Statement.{statement}

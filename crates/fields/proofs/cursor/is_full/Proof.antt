@@ -1,3 +1,4 @@
+-- `is_full`: the three tests are the definition's.
 use Rattle.fields.specs.Number.{full}
 use borrow.Author.Tests.{lt-leb, le-leb, eq-eqb, ne-eqb}
 use Rattle.fields.proofs.cursor.is_full.Statement.{statement}

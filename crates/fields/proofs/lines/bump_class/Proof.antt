@@ -1,3 +1,4 @@
+-- `bump_class`: one class more where the number is the next.
 use borrow.Author.Tests.{eq-eqb, ne-eqb}
 use Rattle.fields.specs.Merge.{bump}
 use borrow.Author.Needs.{needs}

@@ -1,3 +1,4 @@
+-- `is_numbered`: the first i numbers are passed, with k classes among them.
 use Rattle.fields.proofs.MergeLaws.{pass-end, pass-bad, pass-more, bump-most}
 use Rattle.fields.specs.Merge.{numbered}
 use lib.ListN.{drop, take, getD}
@@ -18,9 +19,6 @@ abbrev μ-loop : tie.MeasureT-loop
 
 loop-holds : tie.Need-loop-holds Inv-loop μ-loop
 loop-holds c = search needs
-
-mul-v : tie.Need-mul-v Inv-loop μ-loop
-mul-v c = search needs
 
 array-read-v : tie.Need-array-read-v Inv-loop μ-loop
 array-read-v c = search needs
@@ -63,7 +61,6 @@ is-numbered-spec =
     Inv-loop
     μ-loop
     loop-holds
-    mul-v
     array-read-v
     returns
     bump-class-requires

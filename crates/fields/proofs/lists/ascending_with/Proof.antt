@@ -1,3 +1,4 @@
+-- `ascending_with`: the first entry ascends, another is above the one before.
 use borrow.Author.Tests.{eq-eqb, ne-eqb}
 use Rattle.fields.proofs.lists.ascending_with.Statement.{statement}
 use Rattle.fields.proofs.lists.ascending_with.Tie as tie

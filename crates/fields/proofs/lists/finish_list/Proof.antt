@@ -1,3 +1,4 @@
+-- `finish_list`: 5 where an entry was past its limit, else what was seen.
 use mathlib.Core.Path.{_∙_}
 use Rattle.fields.specs.Listed.{done}
 use borrow.Author.Needs.{needs}
@@ -13,7 +14,7 @@ returns c = c .refused-items .ensures ∙ rw (c .before .if1 .taken, done)
 
 returns-2 : tie.Need-returns-2
 unfolding done
-returns-2 c = rw (c .before .if1 .left, done)
+returns-2 c = rw (c .if1 .left, done)
 
 pub finish-list-spec : {M : Type 1} → statement M
 finish-list-spec = tie.close (tie.spec refused-items-requires returns returns-2)

@@ -1,3 +1,4 @@
+-- `list_refusal`: the refusal's number.
 use mathlib.Core.Path.{sym, ap}
 use Rattle.fields.specs.Trans.{refusalIn}
 use borrow.Author.Needs.{needs}

@@ -1,3 +1,4 @@
+-- `refused_items`: the refusal, with zeros beside it.
 use mathlib.Core.Path.{refl}
 use Rattle.fields.specs.Listed.{refusedItems}
 use Rattle.fields.proofs.lists.refused_items.Statement.{statement}

@@ -1,3 +1,4 @@
+-- `seen_none`: the state before the first entry.
 use mathlib.Core.Path.{refl}
 use Rattle.fields.specs.Listed.{seenNone}
 use Rattle.fields.proofs.lists.seen_none.Statement.{statement}

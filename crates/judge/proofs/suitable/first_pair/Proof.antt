@@ -41,15 +41,19 @@ cast-t17 c = omega (arith, c .before .before .before .before .before .before .be
 
 cast-t18 : tie.Need-cast-t18 Inv-loop μ-loop
 unfolding saidFirst
-cast-t18 c = omega (arith, smallest-some _ 0 _ (sym (sym (ap saidFirst (c .before .found .given .1)) ∙ c .before .before .before .first-below .ensures)) .high, c .before .before .before .before .before .before .before .before .before .pre .1)
+cast-t18 c =
+    let start = c .before .before .before .before .before .before .before .before .before in
+    let found = c .before .before .before .first-below in
+    omega (arith, smallest-some _ 0 _ (sym (sym (ap saidFirst (c .before .found .given .1)) ∙ found .ensures)) .high, start .pre .1)
 
 returns : tie.Need-returns Inv-loop μ-loop
 unfolding saidFirst saidSharing
 returns c =
     let at = c .before .before .before .before .before .before .before .before .loop in
     let found = c .before .before .before .first-below in
-    ap Asked.answered (sym (shared-here _ _ _ _ _ _ (omega arith) _ (partner-on _ _ _ _ _ 0 (sym (c .before .before .before .before .before .before .has .ensures) ∙ c .before .before .before .before .before .if1 .taken) _ (sym (ap saidFirst (c .before .found .given .1)) ∙ found .ensures)))
-    ∙ at .inv .1)
+    let final = sym (c .before .before .before .before .before .before .has .ensures) ∙ c .before .before .before .before .before .if1 .taken in
+    let mate = sym (ap saidFirst (c .before .found .given .1)) ∙ found .ensures in
+    ap Asked.answered (sym (shared-here _ _ _ _ _ _ (omega arith) _ (partner-on _ _ _ _ _ 0 final _ mate)) ∙ at .inv .1)
 
 enum-told : tie.Need-enum-told Inv-loop μ-loop
 enum-told c = search needs
@@ -76,4 +80,22 @@ unfolding saidSharing
 returns-2 c = ap Asked.answered (sym (shared-end _ _ _ _ _ _ (c .loop-test .left)) ∙ c .before .loop .inv .1)
 
 pub first-pair-spec : {M : Type 1} → statement M
-first-pair-spec = tie.close (tie.spec Inv-loop μ-loop loop-holds has-requires mul-first-below element-copy-out-first-below first-below-requires enum-known-found cast-t17 cast-t18 returns enum-told add-q loop-less loop-again returns-2)
+first-pair-spec =
+    tie.close
+    (tie.spec
+    Inv-loop
+    μ-loop
+    loop-holds
+    has-requires
+    mul-first-below
+    element-copy-out-first-below
+    first-below-requires
+    enum-known-found
+    cast-t17
+    cast-t18
+    returns
+    enum-told
+    add-q
+    loop-less
+    loop-again
+    returns-2)

@@ -1,4 +1,4 @@
--- `lanes::opening::alive` meets its contract: each class of the variable after the prefix has its own lane, and the later variables are free. Assumes nothing.
+-- `lanes::opening::alive` meets its contract: each class of the variable after the prefix has its own lane, and the later variables are free.
 use mathlib.Core.Path.{_∙_}
 use borrow.Author.Needs.{needs}
 use Rattle.lanes.proofs.Judging.{none-kept}

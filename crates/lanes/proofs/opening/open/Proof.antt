@@ -1,6 +1,6 @@
--- `lanes::opening::open` meets its contract, by how many variables come after the prefix. Assumes nothing.
+-- `lanes::opening::open` meets its contract, by how many variables come after the prefix.
 use mathlib.Core.Path.{refl, _∙_}
-use Rattle.lanes.specs.Automaton.{automatonOf}
+use Rattle.lanes.specs.Automaton.{wovenAutomaton}
 use Rattle.lanes.proofs.Stays.{judgeable-stays}
 use Rattle.lanes.proofs.Calm.{each-below}
 use Rattle.lanes.proofs.Opened.{open-all, open-none, open-live, open-swept}
@@ -13,11 +13,11 @@ add-if1 : tie.Need-add-if1
 add-if1 c = search needs
 
 returns : tie.Need-returns
-unfolding automatonOf
+unfolding wovenAutomaton
 returns c =
     let start = c .before .before .before .before in
     let a = start .args in (
-      (λ rule s left right. open-all (automatonOf (a .arities .now) (a .words .now) (a .heads .now) (a .k)) rule (a .v) (a .xs .now) (a .needed) (start .pre .0 .ready .most)),
+      (λ rule s left right. open-all (wovenAutomaton (a .arities .now) (a .words .now) (a .heads .now) (a .k)) rule (a .v) (a .xs .now) (a .needed) (start .pre .0 .ready .most)),
       refl,
     )
 
@@ -31,11 +31,11 @@ same-length : tie.Need-same-length
 same-length c = search needs
 
 returns-2 : tie.Need-returns-2
-unfolding automatonOf
+unfolding wovenAutomaton
 returns-2 c =
     let start = c .before .before .before .before .before .before .before .before .before in
     let a = start .args in (
-      (λ rule s left right. open-all (automatonOf (a .arities .now) (a .words .now) (a .heads .now) (a .k)) rule (a .v) (a .xs .now) (a .needed) (start .pre .0 .ready .most)),
+      (λ rule s left right. open-all (wovenAutomaton (a .arities .now) (a .words .now) (a .heads .now) (a .k)) rule (a .v) (a .xs .now) (a .needed) (start .pre .0 .ready .most)),
       c .before .before .pairs .ensures .1,
     )
 
@@ -43,12 +43,12 @@ same-length-2 : tie.Need-same-length-2
 same-length-2 c = search needs
 
 returns-3 : tie.Need-returns-3
-unfolding automatonOf
+unfolding wovenAutomaton
 returns-3 c =
     let start = c .before .before .before .before .before .before .before .before .before in
     let a = start .args in (
       (λ rule s left right.
-          open-none (automatonOf (a .arities .now) (a .words .now) (a .heads .now) (a .k)) rule (a .v) (a .xs .now) (a .needed) (c .before .before .before .before .if2 .taken)
+          open-none (wovenAutomaton (a .arities .now) (a .words .now) (a .heads .now) (a .k)) rule (a .v) (a .xs .now) (a .needed) (c .before .before .before .before .if2 .taken)
           (c .before .before .pairs .ensures .0 rule s (each-below (c .before .before .before .before .if2 .taken) left)
           (each-below (c .before .before .before .before .if2 .taken) right) (c .if3 .left))),
       c .before .before .pairs .ensures .1,
@@ -62,34 +62,41 @@ add-if4 c = search needs
 
 sweep-requires : tie.Need-sweep-requires
 sweep-requires c κs =
-    let start = c .before .before .before .before .before .before .before .before .before .before in
-    (judgeable-stays (start .args .k) (start .args .m .now) _ (c .before .before .before .alive .ensures .1) (start .pre .0), record { few = omega (arith, c .before .if4 .taken, start .pre .1); low = start .pre .2 .low })
+    let start = c .before .before .before .before .before .before .before .before .before .before in (
+      judgeable-stays (start .args .k) (start .args .m .now) _ (c .before .before .before .alive .ensures .1) (start .pre .0),
+      record { few = omega (arith, c .before .if4 .taken, start .pre .1); low = start .pre .2 .low },
+    )
 
 same-length-3 : tie.Need-same-length-3
 same-length-3 c = search needs
 
 returns-4 : tie.Need-returns-4
-unfolding automatonOf
+unfolding wovenAutomaton
 returns-4 c =
     let start = c .before .before .before .before .before .before .before .before .before .before .before .before in
-    let a = start .args in (
+    let a = start .args in
+    let alive = c .before .before .before .before .before .alive in
+    let third = c .before .before .before .if4 .taken in (
       (λ rule s left right.
-          open-swept (automatonOf (a .arities .now) (a .words .now) (a .heads .now) (a .k)) rule (a .v) (a .xs .now) (a .needed) (start .pre .1) (c .before .before .before .before .before .alive .result) (c .before .before .before .before .before .alive .ensures .0 rule s) (c .before .sweep .result) (c .before .before .before .if4 .taken)
-          (c .before .sweep .ensures .0 rule s (each-below (c .before .before .before .if4 .taken) left)
-          (each-below (c .before .before .before .if4 .taken) right))),
-      c .before .sweep .ensures .1 ∙ c .before .before .before .before .before .alive .ensures .1,
+          open-swept (wovenAutomaton (a .arities .now) (a .words .now) (a .heads .now) (a .k)) rule (a .v) (a .xs .now) (a .needed) (start .pre .1)
+          (alive .result) (alive .ensures .0 rule s) (c .before .sweep .result) third
+          (c .before .sweep .ensures .0 rule s (each-below third left) (each-below third right))),
+      c .before .sweep .ensures .1 ∙ alive .ensures .1,
     )
 
 same-length-4 : tie.Need-same-length-4
 same-length-4 c = search needs
 
 returns-5 : tie.Need-returns-5
-unfolding automatonOf
+unfolding wovenAutomaton
 returns-5 c =
     let start = c .before .before .before .before .before .before .before .before .before in
-    let a = start .args in (
-      (λ rule s left right. open-live (automatonOf (a .arities .now) (a .words .now) (a .heads .now) (a .k)) rule (a .v) (a .xs .now) (a .needed) (start .pre .1) (c .before .before .alive .result) (c .before .before .alive .ensures .0 rule s) (omega (arith, c .before .before .before .before .if2 .left, c .before .before .before .before .before .if1 .left))),
-      c .before .before .alive .ensures .1,
+    let a = start .args in
+    let alive = c .before .before .alive in (
+      (λ rule s left right.
+          open-live (wovenAutomaton (a .arities .now) (a .words .now) (a .heads .now) (a .k)) rule (a .v) (a .xs .now) (a .needed) (start .pre .1)
+          (alive .result) (alive .ensures .0 rule s) (omega (arith, c .before .before .before .before .if2 .left, c .before .before .before .before .before .if1 .left))),
+      alive .ensures .1,
     )
 
 pub open-spec : {M : Type 1} → statement M

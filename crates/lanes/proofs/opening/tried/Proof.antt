@@ -1,4 +1,4 @@
--- `lanes::opening::tried` meets its contract: of the classes below x, those in `live` that are not found have no lane with a critical pair. Assumes nothing.
+-- `lanes::opening::tried` meets its contract: of the classes below x, those in `live` that are not found have no lane with a critical pair.
 use mathlib.Core.Path.{sym, _∙_}
 use mathlib.Core.Logic.{⊎-elim}
 use Prim.Native.Nat.{_-_}
@@ -30,7 +30,8 @@ add-near c = search needs
 loop-holds : tie.Need-loop-holds Inv-loop μ-loop
 loop-holds c =
     let a = c .before .before .args in
-    trying-none _ (a .arities .now) (a .tokens .now) (a .k) (a .own) (a .live) (a .found) (a .m .now) _ _ (search needs) (none-kept (a .arities .now) (a .words .now) (a .heads .now) (a .tokens .now) (a .k) _ _)
+    trying-none _ (a .arities .now) (a .tokens .now) (a .k) (a .own) (a .live) (a .found) (a .m .now) _ _ (search needs)
+    (none-kept (a .arities .now) (a .words .now) (a .heads .now) (a .tokens .now) (a .k) _ _)
 
 has-requires : tie.Need-has-requires Inv-loop μ-loop
 has-requires c κs = search needs
@@ -68,7 +69,8 @@ loop-again c =
     ⊎-elim
     (λ w. trying-same (w .12) (w .13) (w .14) (trying-found going inv _ low (w .4 .ensures .1) (w .4 .ensures .0) _ (w .8 .ensures .1 .1) _ (w .8 .ensures .1 .0) _ (w .11 .ensures .0)))
     (⊎-elim
-    (λ w. trying-same (w .11) (w .12) (w .13) (trying-clear going inv _ low (w .4 .ensures .1) (w .4 .ensures .0) _ (w .8 .ensures .1 .1) _ (w .8 .ensures .1 .0) (λ rule s. w .8 .ensures .0 rule s .clear (w .10 .left))))
+    (λ w. trying-same (w .11) (w .12) (w .13)
+    (trying-clear going inv _ low (w .4 .ensures .1) (w .4 .ensures .0) _ (w .8 .ensures .1 .1) _ (w .8 .ensures .1 .0) (λ rule s. w .8 .ensures .0 rule s .clear (w .10 .left))))
     (⊎-elim
     (λ w. trying-same (w .3) (w .4) (w .5) (trying-skip going inv (λ on out. not-both _ (sym (w .1 .ensures) ∙ not-false (w .1 .result) (w .2 .left)) out)))
     (λ w. trying-same (w .1) (w .2) (w .3) (trying-skip going inv (λ on out. not-both _ on (sym (c .before .has .ensures) ∙ w .0 .left))))))

@@ -1,4 +1,4 @@
--- `lanes::prefixes::left` meets its contract. Assumes nothing.
+-- `lanes::prefixes::left` meets its contract: the variables behind the prefix, and at least the last.
 use Rattle.lanes.specs.Prefixes.{rest}
 use native.Mathlib.Omega.{arith}
 use borrow.Author.Needs.{needs}

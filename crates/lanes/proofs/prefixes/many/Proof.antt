@@ -1,4 +1,4 @@
--- `lanes::prefixes::many` meets its contract. Assumes nothing.
+-- `lanes::prefixes::many` meets its contract: at most three variables are left.
 use mathlib.Core.Path.{ap, _∙_}
 use Prim.Native.Nat.{ℕ, _^_}
 use native.Mathlib.Omega.{arith}

@@ -1,4 +1,4 @@
--- `lanes::prefixes::pair` meets its contract. Assumes nothing.
+-- `lanes::prefixes::pair` meets its contract, by the number of variables.
 use mathlib.Core.Path.{_≡_, sym, ap}
 use Prim.Native.Nat.{ℕ}
 use Rattle.lanes.specs.Prefixes.{chosen, pairOf}

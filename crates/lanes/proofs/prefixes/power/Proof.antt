@@ -1,4 +1,4 @@
--- `lanes::prefixes::power` meets its contract. Assumes nothing.
+-- `lanes::prefixes::power` meets its contract, by the exponent.
 use mathlib.Core.Path.{_≡_, sym, ap, _∙_}
 use Prim.Native.Nat.{ℕ, _^_}
 use native.Mathlib.Nat.{pow-zero}

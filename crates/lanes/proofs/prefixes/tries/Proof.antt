@@ -1,4 +1,4 @@
--- `lanes::prefixes::tries` meets its contract. Assumes nothing.
+-- `lanes::prefixes::tries` meets its contract: k classes before the last variable, and one for it and behind it.
 use mathlib.Core.Path.{sym}
 use Rattle.lanes.proofs.Numbers.{choices-in, choices-out}
 use borrow.Author.Needs.{needs}

@@ -1,4 +1,4 @@
--- `lanes::sides::compare` meets its contract. Assumes nothing.
+-- `lanes::sides::compare` meets its contract: both sides are valued, or the left side has no class in any lane.
 use mathlib.Core.Path.{refl, ap}
 use Prim.Native.Nat.{ℕ, _*_}
 use native.Mathlib.Omega.{arith}
@@ -29,13 +29,13 @@ value-requires-2 c κs =
     let j = called .before .before .before .before .before .pre .0 in
     valuable j (j .right) (called .value .ensures .0 .long) (called .value .ensures .1)
 
-block-of-requires : tie.Need-block-of-requires
-block-of-requires c κs = search needs
+sheet-of-requires : tie.Need-sheet-of-requires
+sheet-of-requires c κs = search needs
 
 mul-right : tie.Need-mul-right
 mul-right c =
     let start = c .before .before .before .before .before .before .before .before .before .before .before .before .before .before in
-    omega (arith, ap (λ (b : ℕ). b * start .args .k) (c .block-of .ensures), right-low (start .pre .0))
+    omega (arith, ap (λ (b : ℕ). b * start .args .k) (c .sheet-of .ensures), right-low (start .pre .0))
 
 left-within-requires : tie.Need-left-within-requires
 left-within-requires c κs =
@@ -45,7 +45,7 @@ left-within-requires c κs =
     let start = first .before .before .before .before .before in
     let j = start .pre .0 in
     let long = both-untouched j (first .value .ensures .0) (second .value2 .ensures .0) .long in
-    (omega (arith, j .room), omega (arith, ap (λ (b : ℕ). b * start .args .k) (found .block-of .ensures), right-room j))
+    (omega (arith, j .room), omega (arith, ap (λ (b : ℕ). b * start .args .k) (found .sheet-of .ensures), right-room j))
 
 same-length-2 : tie.Need-same-length-2
 same-length-2 c = search needs
@@ -58,7 +58,7 @@ returns-2 c =
     let j = first .before .before .before .before .before .pre .0 in
     let v = first .value .ensures .0 in
     let w = second .value2 .ensures in
-    (compared-within j v (w .0) (found .block-of .ensures) (c .before .left-within .ensures (c .if2 .taken)), (w .1, both-untouched j v (w .0)))
+    (compared-within j v (w .0) (found .sheet-of .ensures) (c .before .left-within .ensures (c .if2 .taken)), (w .1, both-untouched j v (w .0)))
 
 same-length-3 : tie.Need-same-length-3
 same-length-3 c = search needs
@@ -82,7 +82,7 @@ compare-spec =
     same-length
     returns
     value-requires-2
-    block-of-requires
+    sheet-of-requires
     mul-right
     left-within-requires
     same-length-2

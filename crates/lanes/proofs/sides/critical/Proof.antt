@@ -1,4 +1,4 @@
--- `lanes::sides::critical` meets its contract. Assumes nothing.
+-- `lanes::sides::critical` meets its contract: one bit of the difference of the two rows of a class.
 use mathlib.Core.Path.{sym, ap, ap₂, _∙_}
 use mathlib.Core.Bool.{not, _&&_}
 use mathlib.Core.List.{[]}
@@ -41,7 +41,8 @@ returns : tie.Need-returns
 returns c =
     let a = c .before .before .before .before .args in
     c .has .ensures ∙ ap (λ (s : Set). s (a .j)) (c .before .minus .ensures)
-    ∙ sym (less-in (a .k) (a .m .now) (a .j) (a .q) (a .b) (search needs) ∙ ap₂ (λ x y. x && not y) (lit-low (getD (a .m .now) (a .q) []) (a .j) (search needs)) (lit-low (getD (a .m .now) (a .b + a .q) []) (a .j) (search needs)))
+    ∙ sym (less-in (a .k) (a .m .now) (a .j) (a .q) (a .b) (search needs)
+    ∙ ap₂ (λ x y. x && not y) (lit-low (getD (a .m .now) (a .q) []) (a .j) (search needs)) (lit-low (getD (a .m .now) (a .b + a .q) []) (a .j) (search needs)))
 
 pub critical-spec : {M : Type 1} → statement M
 critical-spec =

@@ -1,4 +1,4 @@
--- `lanes::sides::dark` meets its contract: what is missing in `all` is missing in each word before y. Assumes nothing.
+-- `lanes::sides::dark` meets its contract: what is missing in `all` is missing in each word before y.
 use mathlib.Core.Path.{ap, _∙_}
 use Prim.Native.Nat.{ℕ, _≤_, _-_, _/_, _%_}
 use native.Mathlib.Omega.{arith}

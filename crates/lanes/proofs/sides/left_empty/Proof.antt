@@ -1,4 +1,4 @@
--- `lanes::sides::left_empty` meets its contract: the rows before q are dark. Assumes nothing.
+-- `lanes::sides::left_empty` meets its contract: the rows before q are dark.
 use mathlib.Core.Path.{_≡_, sym}
 use mathlib.Core.Bool.{false, true≢false}
 use mathlib.Core.List.{[]}

@@ -1,4 +1,4 @@
--- `lanes::sides::left_lanes` meets its contract: what is missing in `all` is missing in the first word of each row before q. Assumes nothing.
+-- `lanes::sides::left_lanes` meets its contract: what is missing in `all` is missing in the first word of each row before q.
 use mathlib.Core.Path.{_∙_}
 use mathlib.Core.List.{[]}
 use Prim.Native.Nat.{_≤_, _-_}

@@ -1,4 +1,4 @@
--- `lanes::sides::left_within` meets its contract: in the rows before q the left side has no lane that the other block has not. Assumes nothing.
+-- `lanes::sides::left_within` meets its contract: in the rows before q the left side has no lane that the other sheet has not.
 use mathlib.Core.Path.{_≡_, sym, _∙_}
 use mathlib.Core.Bool.{false, not, _&&_, true≢false}
 use mathlib.Core.List.{[]}
@@ -50,7 +50,8 @@ loop-less c = search needs
 
 loop-again : tie.Need-loop-again Inv-loop μ-loop
 loop-again c =
-    (search needs, below-more _ _ (c .before .before .before .before .before .before .loop .inv .1) (λ l h. sym (c .before .before .without .ensures l h) ∙ c .before .dark .ensures (c .if1 .taken) l h))
+    let old = c .before .before .before .before .before .before .loop .inv .1 in
+    (search needs, below-more _ _ old (λ l h. sym (c .before .before .without .ensures l h) ∙ c .before .dark .ensures (c .if1 .taken) l h))
 
 returns : tie.Need-returns Inv-loop μ-loop
 returns c = λ e. absurd (true≢false (sym e))

@@ -1,4 +1,4 @@
--- `lanes::sides::without` meets its contract: each word before y is the difference of the two. Assumes nothing.
+-- `lanes::sides::without` meets its contract: each word before y is the difference of the two.
 use mathlib.Core.Path.{refl, ap}
 use Prim.Native.Nat.{_≤_, _-_, _/_, _%_}
 use native.Mathlib.Omega.{arith}

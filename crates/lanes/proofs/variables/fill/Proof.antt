@@ -1,4 +1,4 @@
--- `lanes::variables::fill` meets its contract: the rows before q are filled, and only rows of the block are changed. Assumes nothing.
+-- `lanes::variables::fill` meets its contract: the rows before q are filled, and only rows of the sheet are changed.
 use mathlib.Core.Path.{_≡_, refl, _∙_}
 use mathlib.Core.List.{List, []}
 use Prim.Native.Nat.{ℕ, _+_, _-_, _≤_, _<_}
@@ -8,7 +8,7 @@ use lib.Seq.{getD-set-same, getD-set-other}
 use borrow.Author.Count.{below-more}
 use Rattle.values.specs.Rows.{Within}
 use Rattle.values.proofs.Rows.{store-within}
-use Rattle.lanes.specs.Blocks.{Full}
+use Rattle.lanes.specs.Batches.{Full}
 use borrow.Author.Needs.{needs}
 use Rattle.lanes.proofs.variables.fill.Statement.{statement}
 use Rattle.lanes.proofs.variables.fill.Tie as tie

@@ -1,4 +1,4 @@
--- `lanes::variables::fix_all` meets its contract: the variables before x have their classes, and only their blocks are changed. Assumes nothing.
+-- `lanes::variables::fix_all` meets its contract: the variables before x have their classes, and only their sheets are changed.
 use mathlib.Core.Path.{_≡_}
 use Prim.Native.Nat.{_-_, _≤_}
 use native.Mathlib.Omega.{arith}

@@ -1,5 +1,5 @@
--- `lanes::variables::free` meets its contract. Assumes nothing.
-use Rattle.lanes.proofs.VariableRows.{block-low, block-room, touched, freed}
+-- `lanes::variables::free` meets its contract: each row of the variable's sheet is full.
+use Rattle.lanes.proofs.VariableRows.{sheet-low, sheet-room, touched, freed}
 use borrow.Author.Needs.{needs}
 use Rattle.lanes.proofs.variables.free.Statement.{statement}
 use Rattle.lanes.proofs.variables.free.Tie as tie
@@ -8,10 +8,10 @@ add-fill : tie.Need-add-fill
 add-fill c = search needs
 
 mul-fill : tie.Need-mul-fill
-mul-fill c = let s = c .before in let low = block-low (s .args .k) (s .args .x) (s .pre .1) (s .pre .2) in search needs
+mul-fill c = let s = c .before in let low = sheet-low (s .args .k) (s .args .x) (s .pre .1) (s .pre .2) in search needs
 
 fill-requires : tie.Need-fill-requires
-fill-requires c κs = let s = c .before in block-room (s .args .k) (s .args .x) (s .args .m .now) (s .pre .0) (s .pre .1)
+fill-requires c κs = let s = c .before in sheet-room (s .args .k) (s .args .x) (s .args .m .now) (s .pre .0) (s .pre .1)
 
 same-length : tie.Need-same-length
 same-length c = search needs

@@ -1,4 +1,4 @@
--- `lanes::variables::free_from` meets its contract: the variables before y are free, and only their blocks are changed. Assumes nothing.
+-- `lanes::variables::free_from` meets its contract: the variables before y are free, and only their sheets are changed.
 use mathlib.Core.Path.{_≡_}
 use Prim.Native.Nat.{_-_, _≤_}
 use native.Mathlib.Omega.{arith}

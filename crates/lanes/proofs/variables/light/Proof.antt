@@ -1,4 +1,4 @@
--- `lanes::variables::light` meets its contract. Assumes nothing.
+-- `lanes::variables::light` meets its contract: one bit of one word is set.
 use Prim.Native.Nat.{_%_}
 use native.Mathlib.Omega.{arith}
 use Rattle.sets.proofs.Laws.{one-shl}

@@ -1,11 +1,12 @@
--- `lanes::variables::pair_up` meets its contract: y and z are lane l's digits, the lanes before l have theirs, the later ones no class. Assumes nothing.
+-- `lanes::variables::pair_up` meets its contract: y and z are lane l's digits, the lanes before l have theirs, the later ones no class.
 use mathlib.Core.Path.{_≡_, refl, sym, subst}
 use mathlib.Core.Logic.{⊎-elim, inl, inr}
 use mathlib.Core.List.{List}
 use Prim.Native.Nat.{ℕ, _+_, _-_, _≤_}
 use native.Mathlib.Omega.{arith}
-use Rattle.lanes.specs.Blocks.{Roomy}
-use Rattle.lanes.proofs.VariableRows.{block-low, block-room, Digits, digits-first, digits-next, digits-carry, both-one, both-then, Written, written-none, written-paired, high-past, high-lit, low-lit}
+use Rattle.lanes.specs.Batches.{Roomy}
+use Rattle.lanes.proofs.VariableRows.{sheet-low, sheet-room, Digits, digits-first, digits-next, digits-carry, both-one, both-then}
+use Rattle.lanes.proofs.VariableRows.{Written, written-none, written-paired, high-past, high-lit, low-lit}
 use borrow.Author.Needs.{needs}
 use Rattle.lanes.proofs.variables.pair_up.Statement.{statement}
 use Rattle.lanes.proofs.variables.pair_up.Tie as tie
@@ -20,22 +21,22 @@ add-high : tie.Need-add-high Inv-loop μ-loop
 add-high c = search needs
 
 mul-high : tie.Need-mul-high Inv-loop μ-loop
-mul-high c = let low = block-low (c .args .k) (c .args .hi) (c .pre .high) (c .pre .most) in search needs
+mul-high c = let low = sheet-low (c .args .k) (c .args .hi) (c .pre .high) (c .pre .most) in search needs
 
 add-low : tie.Need-add-low Inv-loop μ-loop
 add-low c = search needs
 
 mul-low : tie.Need-mul-low Inv-loop μ-loop
-mul-low c = let low = block-low (c .args .k) (c .args .lo) (c .pre .low) (c .pre .most) in search needs
+mul-low c = let low = sheet-low (c .args .k) (c .args .lo) (c .pre .low) (c .pre .most) in search needs
 
 fill-requires : tie.Need-fill-requires Inv-loop μ-loop
-fill-requires c κs = let s = c .before in block-room (s .args .k) (s .args .hi) (s .args .m .now) (s .pre .room) (s .pre .high)
+fill-requires c κs = let s = c .before in sheet-room (s .args .k) (s .args .hi) (s .args .m .now) (s .pre .room) (s .pre .high)
 
 fill-requires-2 : tie.Need-fill-requires-2 Inv-loop μ-loop
 fill-requires-2 c κs =
     let filled = c .before .before in
     let s = filled .before .before in
-    block-room (s .args .k) (s .args .lo) (filled .fill .last .0) (omega (arith, s .pre .room, filled .fill .ensures .1 .long)) (s .pre .low)
+    sheet-room (s .args .k) (s .args .lo) (filled .fill .last .0) (omega (arith, s .pre .room, filled .fill .ensures .1 .long)) (s .pre .low)
 
 div-y : tie.Need-div-y Inv-loop μ-loop
 div-y c = search needs
@@ -57,11 +58,11 @@ loop-holds c =
 abbrev entry : tie.At-loop Inv-loop μ-loop → tie.Start Inv-loop μ-loop
 entry at = at .before .before .before .before .before .before .before
 
--- What a turn has written, since the blocks were emptied.
+-- What a turn has written, since the sheets were emptied.
 abbrev Wrote : tie.At-loop Inv-loop μ-loop → List (List ℕ) → (highs lows : ℕ) → Type 0
 Wrote at = let a = entry at .args in Written (a .k) (a .hi) (a .lo) (a .start) (at .before .before .fill2 .last .0)
 
--- There is room for the blocks in every turn.
+-- There is room for the sheets in every turn.
 roomy : (at : tie.At-loop Inv-loop μ-loop) → Roomy (entry at .args .k) (at .loop .m)
 roomy at =
     let other = at .before .before in
@@ -71,7 +72,7 @@ roomy at =
 add-light : tie.Need-add-light Inv-loop μ-loop
 add-light c =
     let s = entry (c .before .before .before) in
-    let low = block-low (s .args .k) (s .args .hi) (s .pre .high) (s .pre .most) in
+    let low = sheet-low (s .args .k) (s .args .hi) (s .pre .high) (s .pre .most) in
     let inside = c .before .if1 .taken in
     search needs
 
@@ -81,7 +82,7 @@ light-requires c κs =
     let at = turn .before in
     let s = entry at in
     let inside = c .before .if1 .taken in
-    let fits = block-room (s .args .k) (s .args .hi) (at .loop .m) (roomy at) (s .pre .high) in
+    let fits = sheet-room (s .args .k) (s .args .hi) (at .loop .m) (roomy at) (s .pre .high) in
     (omega (arith, fits, inside), at .loop .inv .2 .high .wide (at .loop .y) inside, omega (arith, turn .loop-test .taken, s .pre .lanes))
 
 -- After the first branch lane l of hi is written too.
@@ -101,7 +102,7 @@ add-light-2 : tie.Need-add-light-2 Inv-loop μ-loop
 add-light-2 c =
     let at = c .before .before .before in
     let s = entry at in
-    let low = block-low (s .args .k) (s .args .lo) (s .pre .low) (s .pre .most) in
+    let low = sheet-low (s .args .k) (s .args .lo) (s .pre .low) (s .pre .most) in
     let inside = at .loop .inv .1 .low in
     search needs
 
@@ -113,7 +114,7 @@ light-requires-2 c κs =
     let inside = at .loop .inv .1 .low in
     let now = half (c .before) in
     let room : Roomy (s .args .k) (c .before .if1 .m) = omega (arith, roomy at, at .loop .inv .2 .both .long, now .both .long) in
-    let fits = block-room (s .args .k) (s .args .lo) (c .before .if1 .m) room (s .pre .low) in
+    let fits = sheet-room (s .args .k) (s .args .lo) (c .before .if1 .m) room (s .pre .low) in
     (omega (arith, fits, inside), now .low .wide (at .loop .z) inside, omega (arith, turn .loop-test .taken, s .pre .lanes))
 
 add-z : tie.Need-add-z Inv-loop μ-loop

@@ -1,7 +1,7 @@
 -- The ways out of the search: each says what the definition says, and the rows are as many as they were.
 use mathlib.Core.Path.{_≡_, sym, _∙_}
 use lib.ListN.{length}
-use Rattle.search.proofs.Turns.{all-examined, block-for, passed-stop, lane-stop, lane-found, block-stop}
+use Rattle.search.proofs.Turns.{all-examined, batch-for, passed-stop, lane-stop, lane-found, batch-stop}
 use Rattle.search.proofs.search.Proof.Places.{chosen-rule, rule-of, first-of, second-of, rows-at-first}
 use Rattle.search.proofs.search.Tie as tie
 use Rattle.search.proofs.search.Proof.Invariants.{At}
@@ -24,14 +24,14 @@ pub returns : At tie.Need-returns
 returns c = let at = c .before .search in all-examined (at .inv .ok) _ (c .if1 .taken ∙ at .inv .is-count) (at .inv .place) (at .inv .within) (at .inv .clear)
 
 pub same-length-2 : At tie.Need-same-length-2
-same-length-2 c = c .before .before .before .before .before .block .ensures .1 ∙ same-third (c .before .before .before .before .before .before .before .before .before)
+same-length-2 c = c .before .before .before .before .before .batch .ensures .1 ∙ same-third (c .before .before .before .before .before .before .before .before .before)
 
 pub returns-2 : At tie.Need-returns-2
 returns-2 c = let at = c .before .before .lanes in lane-stop (at .inv .ruled) (at .inv .lane) (c .before .lanes-test .taken) (c .if5 .taken)
 
 pub same-length-3 : At tie.Need-same-length-3
 same-length-3 c =
-    c .before .before .before .before .before .before .before .before .before .before .before .block .ensures .1
+    c .before .before .before .before .before .before .before .before .before .before .before .batch .ensures .1
     ∙ same-third (c .before .before .before .before .before .before .before .before .before .before .before .before .before .before .before)
 
 pub returns-3 : At tie.Need-returns-3
@@ -43,14 +43,14 @@ returns-3 c =
     lane-found (at .inv .ruled) (at .inv .lane) going left (c .before .before .critical .ensures) (c .before .if6 .taken) none (c .pair .ensures)
 
 pub same-length-4 : At tie.Need-same-length-4
-same-length-4 c = c .before .before .before .block .ensures .1 ∙ same-third (c .before .before .before .before .before .before .before)
+same-length-4 c = c .before .before .before .batch .ensures .1 ∙ same-third (c .before .before .before .before .before .before .before)
 
 pub returns-4 : At tie.Need-returns-4
 returns-4 c =
     let at = c .before .before .before .before .before .before .before .third in
     let t = at .inv .ruled in
     let going = c .before .before .before .before .before .before .third-test .taken in
-    block-stop t (at .inv .level) going (block-for t (c .before .before .before .block .ensures .0)) (c .before .if4 .left) (c .if7 .taken)
+    batch-stop t (at .inv .level) going (batch-for t (c .before .before .before .batch .ensures .0)) (c .before .if4 .left) (c .if7 .taken)
 
 pub same-length-5 : At tie.Need-same-length-5
 same-length-5 c = same-second (c .before .before .before .before)

@@ -1,10 +1,10 @@
--- The loop over the third variable, and within a block those over its lanes and classes.
+-- The loop over the third variable, and within a batch those over its lanes and classes.
 use mathlib.Core.Path.{refl, sym, _∙_}
 use mathlib.Core.Logic.{⊎-elim}
 use native.Mathlib.Omega.{arith}
 use borrow.Author.Count.{below-more, below-none}
 use borrow.Author.Needs.{needs}
-use Rattle.search.proofs.Turns.{three-classes, judgeable, right-room, block-for, sizes-low, choice-low, choice-bit, lane-bit, lane-next, lanes-done, block-begun, block-next}
+use Rattle.search.proofs.Turns.{three-classes, judgeable, right-room, batch-for, sizes-low, choice-low, choice-bit, lane-bit, lane-next, lanes-done, batch-begun, batch-next}
 use Rattle.search.proofs.search.Tie as tie
 use Rattle.search.proofs.search.Proof.Invariants.{At}
 
@@ -21,12 +21,12 @@ cast-t68 c =
     let at = c .before .third in
     omega (arith, choice-bit (at .inv .ruled) (at .inv .level) (at .inv .ruled .m2-is) (c .third-test .taken))
 
-pub slice-aggregate-block : At tie.Need-slice-aggregate-block
-slice-aggregate-block c =
+pub slice-aggregate-batch : At tie.Need-slice-aggregate-batch
+slice-aggregate-batch c =
     search needs
 
-pub block-requires : At tie.Need-block-requires
-block-requires c κs =
+pub batch-requires : At tie.Need-batch-requires
+batch-requires c κs =
     let at = c .before .before .before .third in
     let t = at .inv .ruled in
     let (sides, few) = judgeable t (at .inv .rows .room) in
@@ -40,8 +40,8 @@ lanes-holds c =
     let going = c .before .before .before .before .before .third-test .taken in
     record {
       ruled = t;
-      lane = block-begun t (at .inv .level) going (block-for t (c .before .before .block .ensures .0)) (c .if4 .taken) (at .inv .low0) (at .inv .low1);
-      room = omega (arith, at .inv .rows .room, c .before .before .block .ensures .1);
+      lane = batch-begun t (at .inv .level) going (batch-for t (c .before .before .batch .ensures .0)) (c .if4 .taken) (at .inv .low0) (at .inv .low1);
+      room = omega (arith, at .inv .rows .room, c .before .before .batch .ensures .1);
     }
 
 pub add-examined : At tie.Need-add-examined
@@ -143,9 +143,9 @@ third-again c =
       ruled = t;
       level = ⊎-elim
           (λ w. lanes-done t (at .inv .level) going (w .1 .inv .lane) (w .2 .left) (w .3))
-          (λ w. block-next t (at .inv .level) going (block-for t (c .before .before .block .ensures .0)) (w .0 .left) (w .1 .left) (w .2))
+          (λ w. batch-next t (at .inv .level) going (batch-for t (c .before .before .batch .ensures .0)) (w .0 .left) (w .1 .left) (w .2))
           (c .if4 .came);
       low0 = at .inv .low0;
       low1 = at .inv .low1;
-      rows = record { room = omega (arith, at .inv .rows .room, c .before .before .block .ensures .1); same = omega (arith, at .inv .rows .same, c .before .before .block .ensures .1) };
+      rows = record { room = omega (arith, at .inv .rows .room, c .before .before .batch .ensures .1); same = omega (arith, at .inv .rows .same, c .before .before .batch .ensures .1) };
     }

@@ -6,7 +6,7 @@ use lib.ListN.{length, getD}
 use borrow.Author.Needs.{needs}
 use Rattle.paper.specs.Meaning.{total}
 use Rattle.lanes.specs.Prefixes.{rest}
-use Rattle.lanes.specs.Automaton.{automatonOf}
+use Rattle.lanes.specs.Automaton.{wovenAutomaton}
 use Rattle.search.proofs.Walk.{level-rule}
 use Rattle.search.proofs.Steps.{own-long, rule-count, rule-variables, rule-told, rule-given, rule-judgeable, rule-right}
 use Rattle.search.proofs.Turns.{right-fits, no-class, rule-end}
@@ -16,7 +16,7 @@ use Rattle.search.proofs.search.Tie as tie
 use Rattle.search.proofs.search.Proof.Invariants.{At}
 
 pub search-holds : At tie.Need-search-holds
-unfolding automatonOf total
+unfolding wovenAutomaton total
 search-holds c =
     let start = c .before .before in
     record {
@@ -89,8 +89,8 @@ tries-requires-3 c κs =
 pub cast-variables : At tie.Need-cast-variables
 cast-variables c = let at = chosen-rule c .before .search in omega (arith, at .inv .ok .few (at .rule))
 
-pub block-of-requires : At tie.Need-block-of-requires
-block-of-requires c κs =
+pub sheet-of-requires : At tie.Need-sheet-of-requires
+sheet-of-requires c κs =
     let at = chosen-rule c .before .search in
     let listed = rule-still (at .inv) (chosen-rule c .if1 .left) in
     omega (arith, own-long (chosen-rule c .before .before .before .before .args .t4 .tokens) (at .rule * 48) (omega (arith, at .inv .long, at .inv .ok .most-rules)))
@@ -99,7 +99,7 @@ pub mul-right : At tie.Need-mul-right
 mul-right c =
     let at = chosen-rule (c .before) .before .search in
     let listed = rule-still (at .inv) (chosen-rule (c .before) .if1 .left) in
-    omega (arith, right-fits _ _ _ (c .block-of .ensures) (rule-right (at .inv .ok) (at .rule) listed refl) (at .inv .ok .most-classes))
+    omega (arith, right-fits _ _ _ (c .sheet-of .ensures) (rule-right (at .inv .ok) (at .rule) listed refl) (at .inv .ok .most-classes))
 
 pub leading-requires : At tie.Need-leading-requires
 leading-requires c κs =
@@ -122,7 +122,7 @@ opened-requires c κs =
     (rule-judgeable (at .inv .ok) (at .rule) listed refl (at .inv .long) (at .inv .rows .room), at .inv .ok .few (at .rule), no-class _)
 
 pub first-holds : At tie.Need-first-holds
-unfolding automatonOf
+unfolding wovenAutomaton
 first-holds c =
     let at = chosen-rule (c .before .before .before .before .before .before .before) .before .search in
     let listed = rule-still (at .inv) (chosen-rule (c .before .before .before .before .before .before .before) .if1 .left) in
@@ -141,7 +141,7 @@ first-holds c =
         is-tokens = refl;
         is-v = is-v;
         is-variables = refl;
-        is-right = times (a .k) (c .before .before .before .before .before .before .block-of .ensures);
+        is-right = times (a .k) (c .before .before .before .before .before .before .sheet-of .ensures);
         few = at .inv .ok .few (at .rule);
         lanes-are = powered (rest v 3) (c .before .before .before .before .before .before .before .before .before .before .before .before .many .ensures) (at .inv .is-size);
         passed1-is = powered (rest v 2) (c .before .before .before .before .before .before .before .before .before .before .before .many2 .ensures) (at .inv .is-size);

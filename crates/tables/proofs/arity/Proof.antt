@@ -1,0 +1,18 @@
+-- `tables::arity` meets its contract: what is not listed has the arity 0.
+use borrow.Author.Needs.{needs}
+use mathlib.Core.Path.{sym}
+use lib.ListN.{List·getD-eq-default}
+use Rattle.tables.proofs.arity.Statement.{statement}
+use Rattle.tables.proofs.arity.Tie as tie
+
+shared-slice-read-result : tie.Need-shared-slice-read-result
+shared-slice-read-result c = search needs
+
+returns : tie.Need-returns
+returns c = search needs
+
+returns-2 : tie.Need-returns-2
+returns-2 c = sym (List·getD-eq-default (c .before .args .arities .now) 0 (c .if1 .left))
+
+pub arity-spec : {M : Type 1} → statement M
+arity-spec = tie.close (tie.spec shared-slice-read-result returns returns-2)

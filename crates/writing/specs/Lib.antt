@@ -1,0 +1,2 @@
+-- What is put into a buffer.
+pub mod Put
