@@ -1,5 +1,7 @@
 // Classes of a variable that may stand for each other, by the words that count at the argument places that it has in a rule.
 // A word counts only if its target is wanted there: all classes are wanted of a side, and of an argument those that a word with a wanted target has there.
+#![tactic(auto)]
+
 ghost use Rattle.std.specs.Prelude.{◌≡◌, List, ℕ, ◌≤◌, ◌<◌, length, get_or};
 ghost use Rattle.paper.specs.Limits.{most_transitions};
 ghost use Rattle.woven.specs.Woven.{part, woven_moves};

@@ -1,4 +1,6 @@
 // The eight lines of an answer, written into a lent buffer.
+#![tactic(auto)]
+
 mod eight;
 mod questions;
 mod seven;

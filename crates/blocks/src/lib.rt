@@ -1,4 +1,6 @@
 // The blocks of a certificate: an automaton's lines, and the rules'.
+#![tactic(auto)]
+
 pub mod automata;
 pub mod places;
 pub mod rules;

@@ -1,4 +1,6 @@
 // The reader of a certificate: file to tables and merging, or a refusal and its line. The public reading goes through a view of the lent file.
+#![tactic(auto)]
+
 ghost use Rattle.std.specs.Prelude.{◌≡◌, ◌+◌, ◌≤◌, length};
 ghost use Rattle.paper.specs.Format.{read_file};
 ghost use Rattle.certificate.specs.Read.{read_of, merge_place, HandedTables, Ready};

@@ -1,4 +1,6 @@
 // The public operations: a file and a lent buffer in, the answer in the buffer out; and the two questions, a file in, a value out.
+#![tactic(auto)]
+
 mod export;
 mod first_question;
 mod second_question;

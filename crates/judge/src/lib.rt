@@ -1,10 +1,12 @@
 // The judgement: the two questions, and the verdict that is put together from them.
+#![tactic(auto)]
+
 pub mod merged;
 pub mod suitable;
 
 ghost use Rattle.std.specs.Prelude.{◌≡◌, ◌*◌};
 ghost use Rattle.paper.specs.Meaning.{Asked};
-ghost use Rattle.paper.specs.Computed.{closure as closureOver, sharing_in, closure_in, verdict};
+ghost use Rattle.paper.specs.Computed.{closure as closure_over, sharing_in, closure_in, verdict};
 ghost use Rattle.tables.specs.Held.{held, arities_of, rules_of};
 ghost use Rattle.tables.specs.Sound.{Sound};
 ghost use Rattle.verdicts.specs.Said.{said, said_sharing, Tells};
@@ -43,7 +45,7 @@ fn merged_of(t: Tables, m: Merging) -> Rows
 pub fn first_critical(t: Tables, m: Merging, merged: Rows) -> Closure
     requires sound { Sound t m }
     requires merged { Merged t.initial.rows m.merge (t.initial.count * 5) merged.bytes }
-    ensures { Tells (Asked.answered (closureOver (merged_of t m) (rules_of (arities_of t) t.rules) t.budget)) result }
+    ensures { Tells (Asked.answered (closure_over (merged_of t m) (rules_of (arities_of t) t.rules) t.budget)) result }
 {
     let initial = t.initial;
     let rules = t.rules;

@@ -1,4 +1,6 @@
 // Reads from standard input a letter that names the question (reply::ask) and a certificate, one byte more than a file may have, and prints the answer.
+#![tactic(auto)]
+
 use libc::{STDIN_FILENO, STDOUT_FILENO};
 
 fn main() {

@@ -41,6 +41,7 @@ ends_none (b ∷ bs) w = elim (decided (eqb b LF)) [
 
 pub ends_without : (bs : List ℕ) → line_ends bs ≡ 0 → Without LF bs
 unfolding line_ends
+ends_without [] e m = elim m [ ]
 ends_without (b ∷ bs) e m = elim (decided (eqb b LF)) [
   | inl h ↦ omega (arith, rw (h, line_ends) at e)
   | inr h ↦ elim (Memᴰ.cases_cons m) [ inl s ↦ eqb-false b LF h (sym s) | inr k ↦ ends_without bs (rw (h, line_ends) at e) k ]

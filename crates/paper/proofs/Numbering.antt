@@ -19,7 +19,7 @@ sought p (q ∷ ps) = elim (ℕ_discrete q p) [
   | yes e ↦ inl (0, omega arith, e)
   | no n ↦ elim (sought p ps) [
     | inl (i, h, e) ↦ inl (suc i, omega arith, e)
-    | inr h ↦ inr (λ i. elim i [ zero ↦ λ l e. n e | suc j ↦ λ l e. h j (omega arith) e ])
+    | inr h ↦ inr (λ i. elim i as (λ i. i < length (q ∷ ps) → get_or (q ∷ ps) i 0 ≡ p → ⊥) [ zero ↦ λ l e. n e | suc j ↦ λ l e. h j (omega arith) e ])
   ]
 ]
 

@@ -9,7 +9,7 @@ use native.Mathlib.Decide.{dec_le}
 use native.Mathlib.Nat.{pow-zero, pow-succ', pow-le-pow_right, mul_assoc, mul-le-mul_right}
 use lib.Dec.{eqb, leb, ltb}
 use lib.ListN.{length, length-append}
-use borrow.Author.Tests.{le-leb, leb-true, lt-ltb, le-ltb, ne_eqb, eqb-false, not_true, ltb-false}
+use borrow.Author.Tests.{le-leb, leb-true, lt-ltb, le-ltb, ne_eqb, eqb-false, not-true, ltb-false}
 use Rattle.theory.proofs.Tests.{equal_iff}
 use Rattle.paper.specs.Bytes.{digit0}
 use Rattle.paper.specs.Limits.{most_digits}
@@ -181,7 +181,7 @@ number_facts (b ∷ []) e = let ds = (and-eq-true_iff (digit b) true).1 (e, refl
 number_facts (b ∷ c ∷ cs) e =
     let (f, l) = (and-eq-true_iff (not (eqb b digit0) && all (b ∷ c ∷ cs) digit) (leb (length (b ∷ c ∷ cs)) most_digits)).0 e in
     let (z, ds) = (and-eq-true_iff (not (eqb b digit0)) (all (b ∷ c ∷ cs) digit)).0 f in
-    record { are_digits = ds; few = leb-true (length (b ∷ c ∷ cs)) most_digits l; back = decimal_only b (c ∷ cs) ds (λ e. absurd (eqb-false b digit0 (not_true (eqb b digit0) z) e)) }
+    record { are_digits = ds; few = leb-true (length (b ∷ c ∷ cs)) most_digits l; back = decimal_only b (c ∷ cs) ds (λ e. absurd (eqb-false b digit0 (not-true (eqb b digit0) z) e)) }
 
 number_small : (bs : List ℕ) → IsNumber bs → from_digits 0 bs < 10 ^ most_digits
 number_small bs w = omega (arith, digits_bound bs 0 w.are_digits, pow-le-pow_right {n = 10} (omega arith) w.few)

@@ -169,6 +169,7 @@ module _ (arities value : List ℕ) where
 
   side_reason : (left : Option (Term ℕ)) (ts : List Token) → Tokens value ts → 1 ≤ length ts → (n : ℕ) → Reason value (side_line arities left) n → Failed (early ts) n ⊎ Late left n
   unfolding Failed Unknown last_number Last
+  side_reason left [] w l _ (no_tokens h) = elim l [ ]
   side_reason left (t ∷ ts) w l n (no_tokens h) = absurd (h t ts w)
   side_reason left ts w l n (unlisted_token {f = f} {ts = us} v m u) = inl (inl (refl, (known_fails arities ts).1 (symbol f, rw (same_tokens value w l us v) at m, u)))
   side_reason left ts w l n (large_variable {x = x} {ts = us} v m u) = inl (inl (refl, (known_fails arities ts).1 (variable x, rw (same_tokens value w l us v) at m, u)))

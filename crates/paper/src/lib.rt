@@ -1,1 +1,2 @@
 // No code: the scope as definitions, and its demands as theorems.
+#![tactic(auto)]

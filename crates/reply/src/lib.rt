@@ -1,4 +1,6 @@
 // The answers as a program lends them on: each length comes with what `&out[..k]` asks.
+#![tactic(auto)]
+
 ghost use Rattle.std.specs.Prelude.{◌≡◌};
 ghost use Rattle.paper.specs.Computed.{sharing_of, closure_of};
 ghost use Rattle.paper.specs.Answer.{answer_of, sharing_answer, closure_answer};

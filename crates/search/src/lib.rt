@@ -1,5 +1,7 @@
 // The search for the first critical pair. Of a rule's variables before the last two only those classes are gone into that are needed and with which
 // there is a critical pair; the rest is counted whole.
+#![tactic(auto)]
+
 ghost use Rattle.std.specs.Prelude.{◌*◌, ◌≤◌, length};
 ghost use Rattle.theory.specs.Rewriting.{Rule};
 ghost use Rattle.paper.specs.Meaning.{Asked};

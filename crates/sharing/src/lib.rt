@@ -1,4 +1,6 @@
 // Which classes and which states of the bad automaton share a tree: a mask for each class, filled until nothing is added.
+#![tactic(auto)]
+
 ghost use Rattle.std.specs.Prelude.{◌≡◌, ◌||◌, false, ◌+◌, ◌*◌, ◌/◌, ◌<◌, leb, length, get_or};
 ghost use Rattle.sets.specs.Sets.{mem};
 ghost use Rattle.sharing.specs.Share.{Small, rel, joins, ClosedAt, Grown, Still, Rests, AllRest, Exact, Shareable, TwoBytes, TwoRows};

@@ -1,4 +1,6 @@
 // The sides of rules: tokens that are one term, and their variables.
+#![tactic(auto)]
+
 ghost use Rattle.std.specs.Prelude.{◌≡◌, ℕ, ◌+◌, ◌-◌, ◌≤◌, ◌<◌, length, get_or, take, true, false};
 ghost use Rattle.paper.specs.Limits.{most_symbols};
 ghost use Rattle.fields.specs.Said.{Placed};

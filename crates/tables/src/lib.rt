@@ -1,4 +1,6 @@
 // What a certificate holds, as the checker keeps it: plain numbers in flat arrays, so that nothing is copied where it is judged.
+#![tactic(auto)]
+
 ghost use Rattle.std.specs.Prelude.{◌≡◌, get_or};
 
 use sets::WIDTH;

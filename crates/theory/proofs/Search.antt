@@ -23,6 +23,7 @@ spread_sound (c ∷ cs) ls m = elim (Memᴰ.append_cases (map (λ l. c ∷ l) ls
 
 spread_complete : {c : ℕ} {l : List ℕ} {cs : List ℕ} (ls : List (List ℕ)) → Memᴰ c cs → Memᴰ l ls → Memᴰ (c ∷ l) (spread cs ls)
 unfolding spread
+spread_complete {cs = []} ls n m = elim n [ ]
 spread_complete {l = l} {cs = d ∷ cs} ls (Memᴰ.head e) m = Memᴰ.append_left (spread cs ls) (Memᴰ.cast (ap (λ x. x ∷ l) e) (Memᴰ.map (λ l. d ∷ l) m))
 spread_complete {cs = d ∷ cs} ls (Memᴰ.tail n) m = Memᴰ.append_right (map (λ l. d ∷ l) ls) (spread_complete ls n m)
 
@@ -33,7 +34,7 @@ substitutions_sound k zero (Memᴰ.head e) = rw e (refl, λ c m. absurd (Memᴰ.
 substitutions_sound k zero (Memᴰ.tail m) = absurd (Memᴰ.not-nil m)
 substitutions_sound {σ} k (suc v) m =
     let (c, l, i, j, e) = spread_sound (count_from 0 k) (substitutions k v) m in
-    let (n, b) = substitutions_sound k v j in
+    let (n, b) = substitutions_sound {σ = l} k v j in
     rw (← e) (ap suc n, all_cons (omega (arith, (mem_order 0 k i).1)) b)
 
 -- All such are there.

@@ -1,5 +1,7 @@
 // Reads certificates packed one behind the other, each after its length in two bytes, the higher first, and prints for every one the answers to all
 // three: the whole verdict, the first question, the second.
+#![tactic(auto)]
+
 ghost use Rattle.std.specs.Prelude.{◌≡◌, ◌+◌, ◌*◌};
 
 use libc::{STDIN_FILENO, STDOUT_FILENO};

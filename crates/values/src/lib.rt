@@ -1,4 +1,6 @@
 // The value of a term in all lanes at once. It is a sheet of rows, one to a class: see specs/Lanes.
+#![tactic(auto)]
+
 ghost use Rattle.std.specs.Prelude.{◌≡◌, ◌||◌, ◌&&◌, List, ℕ, ◌+◌, ◌≤◌, ◌<◌, length, get_or};
 ghost use Rattle.paper.specs.Limits.{most_arity};
 ghost use Rattle.woven.specs.Woven.{part, woven_moves};
