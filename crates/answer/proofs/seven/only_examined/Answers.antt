@@ -5,12 +5,8 @@ use Rattle.paper.specs.Answer.{dash}
 use Rattle.answer.specs.Shown.{shown, seven}
 use Rattle.answer.proofs.Widths.{says_short, any_shown}
 use native.Mathlib.Omega.{arith}
-use Rattle.answer.proofs.seven.only_examined.Statement.{statement}
-use Rattle.answer.proofs.seven.only_examined.Tie as tie
+use Rattle.answer.proofs.seven.only_examined.Goals as goal
 
-returns : tie.Need-returns
+pub returns : goal.returns
 unfolding seven shown dash bytes
-returns c = says_short refl (omega (arith, any_shown c.args.examined c.well-formed.0))
-
-pub only-examined-spec : {M : Type 1} → statement M
-only-examined-spec = tie.close (tie.spec returns)
+returns c = says_short refl (omega (arith, any_shown c.args.examined c.well_formed.0))
