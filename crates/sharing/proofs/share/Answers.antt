@@ -1,0 +1,46 @@
+-- `sharing::share` meets its contract. The invariant: the pairs hold only pairs that share a tree, and a row that has more to add has a dirty argument.
+use mathlib.Core.Path.{sym, ap, ◌∙◌, subst, refl}
+use Prim.Native.Nat.{ℕ, ◌*◌, ◌^◌, ◌≤◌, ◌<◌}
+use lib.Dec.{lit<}
+use Rattle.sets.specs.Sets.{mem}
+use Rattle.sets.proofs.Laws.{mem_all}
+use Rattle.theory.proofs.Bools.{not_both, zero_at}
+use Rattle.sharing.specs.Share.{Still, sum}
+use Rattle.sharing.proofs.Sharing.{sum_most, exact, falls, not_in_none, still_none}
+use Rattle.sharing.proofs.share.Goals as goal
+
+pub loop-dirty-init : goal.loop-dirty-init
+loop-dirty-init c = (
+  refl,
+  (λ i. subst (λ (n : ℕ). n < 2 ^ 64) (sym (zero_at 64 i)) (lit< tt)),
+  (λ x b h. not_both _ h (ap (λ (n : ℕ). mem n b) (zero_at 64 x) ∙ not_in_none b)),
+  (λ j l s. absurd (s.part mem_all)),
+)
+
+pub slice_bounds-pass-end : goal.slice_bounds-pass-end
+slice_bounds-pass-end c = sym c.loop-dirty.invariant.0
+
+pub pass-dirty-requires : goal.pass-dirty-requires
+pass-dirty-requires c = (c.loop-dirty.invariant.0, c.requires, c.loop-dirty.invariant.3)
+
+pub loop-dirty-smaller : goal.loop-dirty-smaller
+loop-dirty-smaller c =
+    let at = c.loop-dirty in
+    let did = c.pass-dirty in
+    let most = sum_most did.new.pairs (2 ^ 64) (did.ensures.words at.invariant.1) in
+    let long = did.ensures.long ∙ at.invariant.0 in
+    falls at.pairs did.new.pairs at.dirty did.result c.loop-dirty-test.true
+    (subst (λ (n : ℕ). sum did.new.pairs ≤ n * 2 ^ 64) long most) did.ensures.up did.ensures.more
+
+pub loop-dirty-preserved : goal.loop-dirty-preserved
+loop-dirty-preserved c =
+    let at = c.loop-dirty in
+    let did = c.pass-dirty in
+    (did.ensures.long ∙ at.invariant.0, did.ensures.words at.invariant.1, did.ensures.only_shared at.invariant.2, did.ensures.rest)
+
+pub returns : goal.returns
+returns c =
+    let a = c.args in
+    let at = c.loop-dirty in
+    exact a.merged.now a.bad.now a.ar.now c.requires at.pairs
+    (λ j l. at.invariant.3 j l (subst (λ (d : ℕ). Still a.merged.now a.ar.now d j) (sym c.loop-dirty-test.false) (still_none a.merged.now a.ar.now j))) at.invariant.2
