@@ -45,7 +45,8 @@ unfoldable pub flag : ℕ → ℕ
 flag zero = 0
 flag (suc d) = 1
 
-pub falls : (r r' : List ℕ) (d d' : ℕ) → (d ≡ 0 → ⊥) → sum r' ≤ 64 * 2 ^ 64 → sum r ≤ sum r' → (d' ≡ 0) ⊎ (sum r < sum r') → 64 * 2 ^ 64 - sum r' + flag d' < 64 * 2 ^ 64 - sum r + flag d
+pub falls : (r r' : List ℕ) (d d' : ℕ) → (d ≡ 0 → ⊥) → sum r' ≤ 64 * 2 ^ 64 → sum r ≤ sum r' → (d' ≡ 0) ⊎ (sum r < sum r')
+    → 64 * 2 ^ 64 - sum r' + flag d' < 64 * 2 ^ 64 - sum r + flag d
 unfolding flag
 falls r r' zero d' some most up more = absurd (some refl)
 falls r r' (suc d) zero some most up more = omega arith
