@@ -11,7 +11,7 @@ use lib.ListN.{length, take, get_or}
 use lib.Seq.{get_or-take}
 use Rattle.theory.specs.Automaton.{◌of◌gives◌}
 use Rattle.paper.specs.Checked.{Checked, fault, says, ◌>>=◌, ◌>>◌, ◌unless◌}
-use Rattle.paper.specs.Fields.{all, each}
+use Rattle.paper.specs.Fields.{all}
 use Rattle.paper.specs.Certificate.{Kind, row, Arities, Merge}
 use Rattle.paper.specs.Tables.{within, number_list, arity_list, ascending as paperAscending, final_list, last_of, transition_of, from_numbers, transition, numbered as paperNumbered, class_list}
 use Rattle.paper.proofs.Smallest.{decided}

@@ -69,6 +69,7 @@ judged_is file K (numbers ns at) behind (says ms) e =
 module _ (file : List ℕ) (K : Kind) where
   not_two : (s : List ℕ) (w : ℕ) (x : Value) → Some s x → judged file K (with_first w x) ≡ fault 4
   unfolding Some judged one_of found ◌unless◌ ◌>>◌ ◌>>=◌
+  not_two s w (numbers [] at) h = elim h [ ]
   not_two s w not_numbers h = refl
   not_two s w (numbers (v ∷ ns) at) h = rw (ne_eqb (suc (suc (length ns))) 1 (λ z. omega arith))
 

@@ -93,11 +93,13 @@ module _ (b : ℕ) (s : List ℕ) where
 
   some_behind : (x : Value) → Some s x → Some (b ∷ s) x
   unfolding Some
+  some_behind (numbers [] at) h = elim h [ ]
   some_behind not_numbers h = tt
   some_behind (numbers (v ∷ ns) at) h = end_behind h
 
   some_first : (w : ℕ) (x : Value) → Some s x → Some (b ∷ s) (with_first w x)
   unfolding Some
+  some_first w (numbers [] at) h = elim h [ ]
   some_first w not_numbers h = tt
   some_first w (numbers (v ∷ ns) at) h = end_behind h
 
@@ -140,6 +142,7 @@ value_endless (b ∷ s) y at h = elim (decided (eqb b 10)) [
 
     go : (x : Value) → Some (b ∷ s) x → x ≡ not_numbers
     go not_numbers k = refl
+    go (numbers [] e) k = elim k [ ]
     go (numbers (v ∷ ns) e) k = never (sym h ∙ k)
 
 -- a number that has been read ends within s, and takes a byte at least

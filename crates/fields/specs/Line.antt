@@ -1,5 +1,5 @@
 -- A line: its key, its value and its LF; and the table of lines.
-use Rattle.std.specs.Prelude.{◌≡◌, ℕ, ◌+◌, ◌-◌, ◌<◌, List, [], ◌∷◌, ◌++◌, map, Bool, true, false, ◌&&◌, eqb, leb, length, drop, get_or}
+use Rattle.std.specs.Prelude.{◌≡◌, ℕ, ◌+◌, ◌-◌, ◌<◌, List, [], ◌∷◌, ◌++◌, map, Bool, true, false, eqb, length, drop, get_or}
 use Rattle.paper.specs.Bytes.{bytes}
 use Rattle.paper.specs.Limits.{most_symbols, most_arity, most_tokens, last_variable}
 use Rattle.paper.specs.Certificate.{Kind, row, Budget, Arities, States, Final, Trans, BadStates, BadFinal, BadTrans, Rules, Merge, Row as PaperRow, ◌from◌to◌entries◌empty◌}

@@ -1,5 +1,5 @@
 -- The value of a line: its numbers, parted by commas and ended by LF, and the place after the LF.
-use Rattle.std.specs.Prelude.{ℕ, zero, suc, ◌+◌, ◌*◌, ◌-◌, ◌<◌, List, [], ◌∷◌, true, false, ◌&&◌, eqb, leb, ltb}
+use Rattle.std.specs.Prelude.{ℕ, zero, suc, ◌+◌, ◌*◌, ◌-◌, List, [], ◌∷◌, true, false, ◌&&◌, eqb, leb, ltb}
 use Rattle.theory.specs.Preorder.{Token, symbol, variable}
 use Rattle.fields.specs.Number.{is_digit, full, number_from}
 use Rattle.paper.specs.Limits.{last_variable, most_symbols}

@@ -12,7 +12,7 @@ use sets::index;
 use tables::SYMBOLS;
 
 // A transition: its symbol, its arguments (0 past the symbol's arity) and its target.
-#[derive(Drop)]
+#[derive(Clone, Copy)]
 pub struct Trans {
     pub symbol: u8,
     pub a: u8,
@@ -22,7 +22,7 @@ pub struct Trans {
 }
 
 // A transition and the next line, or the refusal.
-#[derive(Drop)]
+#[derive(Clone, Copy)]
 pub enum Arrow {
     Read { trans: Trans, next: Cursor },
     Refused(u8),

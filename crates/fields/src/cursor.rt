@@ -15,35 +15,35 @@ const DIGITS: u32 = 8;
 const NO_TOKEN: u32 = 255;
 
 // A place in the file, and the number of its line.
-#[derive(Drop)]
+#[derive(Clone, Copy)]
 pub struct Cursor {
     pub at: usize,
     pub line: u32,
 }
 
 // A line of one number and the next line, or the refusal.
-#[derive(Drop)]
+#[derive(Clone, Copy)]
 pub enum Field {
     Read { value: u32, next: Cursor },
     Refused(u8),
 }
 
 // A number or a token inside a line and the place behind it, or none.
-#[derive(Drop)]
+#[derive(Clone, Copy)]
 pub enum Taken {
     Read { value: u32, at: usize },
     Fault,
 }
 
 // A line's key is there, and its value begins at this place; or it is not.
-#[derive(Drop)]
+#[derive(Clone, Copy)]
 pub enum Opened {
     At(usize),
     Missing,
 }
 
 // What the entries of a list are: numbers, the first at most `first` and each other at most `rest`; or tokens, over so many symbols.
-#[derive(Drop)]
+#[derive(Clone, Copy)]
 pub enum Sort {
     Numbers { first: u32, rest: u32 },
     Tokens { symbols: u32 },

@@ -15,7 +15,7 @@ use tables::{LAST_VARIABLE, VARIABLE};
 pub const ROOM: usize = 64;
 
 // What a list's value says: how many entries, whether each is above the one before, and the next line.
-#[derive(Drop)]
+#[derive(Clone, Copy)]
 pub enum Listed {
     Got {
         count: usize,
@@ -26,14 +26,14 @@ pub enum Listed {
 }
 
 // The same with the first 64 entries. An enum holds no array, so they stand beside it.
-#[derive(Drop)]
+#[derive(Clone, Copy)]
 pub struct Items {
     pub answer: Listed,
     pub items: [u8; ROOM],
 }
 
 // What is known of the entries that were read so far.
-#[derive(Drop)]
+#[derive(Clone, Copy)]
 pub struct Seen {
     pub count: usize,
     pub last: u32,

@@ -14,7 +14,7 @@ pub const KINDS: usize = 14;
 
 // A row of the table: the line's key with its `=`, 0 behind it, and how long that is; the least and the greatest number, how many entries at
 // most, and whether none is allowed. In a line of tokens the numbers are the tokens' bytes.
-#[derive(Drop)]
+#[derive(Clone, Copy)]
 pub struct Row {
     pub key: [u8; KEY],
     pub length: u8,
