@@ -1,6 +1,5 @@
 -- What a program prints: the answer to the question that a letter names, in a lent buffer.
-use Rattle.std.specs.Prelude.{◌≡◌, cond, List, ℕ, ◌≤◌, ◌<◌, eqb, length}
-use Rattle.io.specs.Counts.{IsPrefixLen}
+use Rattle.std.specs.Prelude.{◌≡◌, cond, List, ℕ, ◌≤◌, ◌<◌, eqb, length, take}
 use Rattle.paper.specs.Limits.{least_buffer}
 use Rattle.paper.specs.Computed.{sharing_of, closure_of}
 use Rattle.paper.specs.Answer.{answer_of, sharing_answer, closure_answer}
@@ -9,6 +8,10 @@ use Rattle.answer.specs.Shown.{Wrote}
 -- `s` asks the first question, `c` the second, and any other byte for the whole verdict.
 unfoldable pub answer_to : ℕ → List ℕ → List ℕ
 answer_to letter file = cond (eqb letter 115) (sharing_answer (sharing_of file)) (cond (eqb letter 99) (closure_answer (closure_of file)) (answer_of file))
+
+-- `&xs[..n]` is in bounds and has n bytes.
+abbrev pub IsPrefixLen : ℕ → List ℕ → Type 0
+IsPrefixLen n xs = (n ≤ length xs) × (n ≡ length (take n xs))
 
 -- A text in a buffer: nothing is written into one under 128 bytes; otherwise it stands from the start, n bytes long, and the later bytes stay.
 pub record Placed (text was : List ℕ) (n : ℕ) (is : List ℕ) : Type 0 where

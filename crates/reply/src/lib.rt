@@ -1,10 +1,12 @@
 // The answers as a program lends them on: each length comes with what `&out[..k]` asks.
 #![tactic(auto)]
 
-ghost use Rattle.std.specs.Prelude.{◌≡◌};
+ghost use Rattle.std.specs.Prelude.{◌≡◌, ◌≤◌, length, IfOk};
 ghost use Rattle.paper.specs.Computed.{sharing_of, closure_of};
 ghost use Rattle.paper.specs.Answer.{answer_of, sharing_answer, closure_answer};
 ghost use Rattle.reply.specs.Placed.{answer_to, Placed};
+
+use std::io::{self, Read};
 
 // Judges the file, and gives the length of the answer that then stands in the buffer.
 pub fn reply(file: &[u8], out: &mut [u8]) -> usize
@@ -45,4 +47,19 @@ pub fn ask(letter: u8, file: &[u8], out: &mut [u8]) -> usize
         return reply_closure(file, out);
     }
     reply(file, out)
+}
+
+// Reads until the buffer is full or the input ends, and gives how many bytes then stand at its start.
+pub fn read_full<R: Read>(input: &mut R, buf: &mut [u8]) -> io::Result<usize>
+    ensures { IfOk result (λ n. n ≤ length buf.new) }
+{
+    let mut done = 0;
+    while done < buf.len() {
+        let got = input.read(&mut buf[done..])?;
+        if got == 0 {
+            break;
+        }
+        done += got;
+    }
+    Ok(done)
 }

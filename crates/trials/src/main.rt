@@ -4,7 +4,8 @@
 
 ghost use Rattle.std.specs.Prelude.{◌≡◌, ◌+◌, ◌*◌};
 
-use libc::{STDIN_FILENO, STDOUT_FILENO};
+use reply::read_full;
+use std::io::{self, Read, Write};
 
 // The most certificates in one run: nothing says that the input ends.
 const MOST: u32 = 1000000;
@@ -17,48 +18,44 @@ fn length_of(high: u8, low: u8) -> usize
 }
 
 // Prints the answer to the question that the letter names.
-fn print(letter: u8, file: &[u8]) -> bool {
+fn print<W: Write>(output: &mut W, letter: u8, file: &[u8]) -> io::Result<()> {
     let mut out = [0u8; 128];
     let k = reply::ask(letter, file, &mut out);
-    io::write_all(STDOUT_FILENO, &out[..k])
+    output.write_all(&out[..k])
 }
 
 // Prints the whole verdict, then the answers to the first and the second question.
-fn print_all(file: &[u8]) -> bool {
-    if !print(b'v', file) {
-        return false;
-    }
-    if !print(b's', file) {
-        return false;
-    }
-    print(b'c', file)
+fn print_all<W: Write>(output: &mut W, file: &[u8]) -> io::Result<()> {
+    print(output, b'v', file)?;
+    print(output, b's', file)?;
+    print(output, b'c', file)
 }
 
 // Answers the next certificate; false where there is none, or where it is cut off.
-fn next(file: &mut [u8]) -> bool {
+fn next<R: Read, W: Write>(input: &mut R, output: &mut W, file: &mut [u8]) -> io::Result<bool> {
     let mut head = [0u8; 2];
-    if io::read_full(STDIN_FILENO, &mut head) < 2 {
-        return false;
+    if read_full(input, &mut head)? < 2 {
+        return Ok(false);
     }
     let n = length_of(head[0], head[1]);
     if file.len() < n {
-        return false;
+        return Ok(false);
     }
-    if io::read_full(STDIN_FILENO, &mut file[..n]) < n {
-        return false;
+    if read_full(input, &mut file[..n])? < n {
+        return Ok(false);
     }
-    print_all(&file[..n])
+    print_all(output, &file[..n])?;
+    Ok(true)
 }
 
-fn main() {
+fn main(rt: HostRuntime) -> io::Result<()> {
+    let mut input = rt.stdin();
+    let mut output = rt.stdout();
     let mut file = [0u8; 65536];
-    let mut left = MOST;
-    let mut more = true;
-    while more {
-        if left == 0 {
-            return;
+    for _ in 0..MOST {
+        if !next(&mut input, &mut output, &mut file)? {
+            break;
         }
-        left -= 1;
-        more = next(&mut file);
     }
+    Ok(())
 }
