@@ -1,5 +1,5 @@
 // The view: the lent file, a place in it and the place's line. The public reading goes through it: each function over a view takes it apart and
-// calls a covered function on the slice and the numbers. A function over a struct that holds a reference is proved by hand, so they are few.
+// calls a function on the slice and the numbers.
 #![tactic(auto)]
 
 ghost use Rattle.std.specs.Prelude.{◌≡◌, ◌<◌, length, drop};
@@ -7,7 +7,7 @@ ghost use Rattle.std.specs.Prelude.{◌≡◌, ◌<◌, length, drop};
 use fields::cursor::Cursor;
 
 // A file, a place in it, and the number of its line.
-#[derive(Drop)]
+#[derive(Clone, Copy)]
 pub struct View<'a> {
     pub file: &'a [u8],
     pub at: usize,
