@@ -16,7 +16,7 @@ use fields::rows::{BAD_STATES, BAD_TRANSITION, BUDGET, RULES, STATES, TRANSITION
 use tables::{SYMBOLS, Tables};
 
 // The line of `merge` with the tables, or the refusal and its line.
-#[derive(Drop)]
+#[derive(Clone, Copy)]
 pub struct Opening {
     pub answer: Reached,
     pub tables: Tables,
