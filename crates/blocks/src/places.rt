@@ -7,7 +7,7 @@ use fields::cursor::{Cursor, Field};
 use sides::Ends;
 
 // The next line, or the refusal and its line.
-#[derive(Drop)]
+#[derive(Clone, Copy)]
 pub enum Reached {
     At(Cursor),
     Refused { refusal: u8, line: u32 },

@@ -38,7 +38,7 @@ pub const LAST_VARIABLE: u8 = VARIABLES as u8 - 1;
 
 // One automaton, A or B. Its states are the numbers below `states`, and bit q of `finals` says that the state q is final.
 // Transition i stands in the ROW bytes of `rows` from ROW * i on.
-#[derive(Drop)]
+#[derive(Clone, Copy)]
 pub struct Table {
     pub states: usize,
     pub finals: u64,
@@ -48,7 +48,7 @@ pub struct Table {
 
 // The rules. Rule i has the RULE bytes of `tokens` from RULE * i on.
 // Beside them stand how many tokens each side has, and how many variables the left side has.
-#[derive(Drop)]
+#[derive(Clone, Copy)]
 pub struct Rules {
     pub count: usize,
     pub tokens: [u8; RULE * RULES],
@@ -58,7 +58,7 @@ pub struct Rules {
 }
 
 // All of a certificate but its merging: the arities of the first `symbols` symbols, A, B, the rules and the budget.
-#[derive(Drop)]
+#[derive(Clone, Copy)]
 pub struct Tables {
     pub budget: u32,
     pub symbols: usize,
@@ -69,7 +69,7 @@ pub struct Tables {
 }
 
 // The proposed merging: the class of each state of A, and how many classes there are.
-#[derive(Drop)]
+#[derive(Clone, Copy)]
 pub struct Merging {
     pub classes: usize,
     pub merge: [u8; WIDTH],
