@@ -18,7 +18,8 @@ pub mask_with : (m q r : ℕ) → m < 2 ^ 64 → r < 2 ^ 64 → q < 64 → mem r
 mask_with m q r hm hr hq e = mem_ext 64 r (bit_or m (2 ^ q)) hr (or_lt 64 m (2 ^ q) hm (pow-lt hq)) (λ x l. ap (λ (f : ℕ → Bool). f x) (e ∙ sym (mem_with m q)))
 
 -- one more state
-pub mask_more : (items : List ℕ) (n i mask r : ℕ) → n ≤ length items → i < n → r ≡ bit_or mask (2 ^ get_or items i 0) → mask_from r (drop (i + 1) (take n items)) ≡ mask_from mask (drop i (take n items))
+pub mask_more : (items : List ℕ) (n i mask r : ℕ) → n ≤ length items → i < n → r ≡ bit_or mask (2 ^ get_or items i 0)
+    → mask_from r (drop (i + 1) (take n items)) ≡ mask_from mask (drop i (take n items))
 unfolding mask_from
 mask_more items n i mask r fits h e = sym (rw (taken_cons items n i fits h, e))
 

@@ -104,7 +104,8 @@ refusal_above file n line e = elim (refused_or_holds file) [
     above (on_line {line = k} a b c d) = (omega arith, λ l e. let same : k ≡ l = cc in omega arith)
 
 -- What is answered says what the file is.
-said_file : (f : File) → ((n : ℕ) (line : Option ℕ) → f ≡ unreadable n line → (0 < n) × ((l : ℕ) → line ≡ some l → 0 < l)) → ((c : Certificate) → f ≡ holds c → WellFormed c) → said_read (read_of f) ≡ f
+said_file : (f : File) → ((n : ℕ) (line : Option ℕ) → f ≡ unreadable n line → (0 < n) × ((l : ℕ) → line ≡ some l → 0 < l)) → ((c : Certificate) → f ≡ holds c → WellFormed c)
+    → said_read (read_of f) ≡ f
 unfolding said_read read_of refused_read line_number line_at
 said_file (holds c) h g = ap holds (held_back c (g c refl))
 said_file (unreadable zero line) h g = absurd (omega (arith, (h zero line refl).0))

@@ -90,7 +90,8 @@ first_digit y b (c ∷ e) d = elim (decided (eqb b 48)) [
       ∙ rw (z, p, same_digit b, d, w) (go (digit c && all e digit) (leb (suc (suc (length e))) 8))
 ]
   where
-    go : (s t : Bool) → ◌≡◌ {A = Checked ℕ} (4 unless (s && t) >> says (code y (from_digits (10 * 0 + (b - 48)) (c ∷ e)))) (coded y (4 unless (s && t) >> says (from_digits (10 * 0 + (b - 48)) (c ∷ e))))
+    go : (s t : Bool) → ◌≡◌ {A = Checked ℕ} (4 unless (s && t) >> says (code y (from_digits (10 * 0 + (b - 48)) (c ∷ e))))
+        (coded y (4 unless (s && t) >> says (from_digits (10 * 0 + (b - 48)) (c ∷ e))))
     go true true = refl
     go true false = refl
     go false t = refl

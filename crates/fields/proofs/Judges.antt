@@ -190,7 +190,8 @@ module _ (arities : List ℕ) (S n : ℕ) (few : length (take S arities) ≡ S) 
       ∙ rw (few, flip (S - 1) f, ← below_flip S f one_symbol, ← none_over sort (λ q. ltb q n) (λ q. below_flip n q one_state ∙ sym (flip (n - 1) q)) qs)
 
   trans_test : (f : ℕ) (qs : List ℕ) → ltb f (length (take S arities)) ≡ true
-      → (checking (trans_check arities) (f ∷ qs) >>= (λ ns. says (moved arities (trans_of ns)))) ≡ (6 unless eqb (length qs) (get_or (take S arities) f 0 + 1) >> says (f of drop_last qs gives last_of qs))
+      → (checking (trans_check arities) (f ∷ qs) >>= (λ ns. says (moved arities (trans_of ns))))
+      ≡ (6 unless eqb (length qs) (get_or (take S arities) f 0 + 1) >> says (f of drop_last qs gives last_of qs))
   unfolding ◌unless◌ ◌>>◌ ◌>>=◌
   trans_test f qs l =
       let listed : f < S = omega (arith, ltb-true f (length (take S arities)) l) in

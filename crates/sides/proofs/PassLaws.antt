@@ -71,7 +71,8 @@ module _ (tokens : List ℕ) (count : ℕ) (fits : count ≤ length tokens) wher
   past : (i : ℕ) → count ≤ i → drop i (take count tokens) ≡ []
   past i h = let l = length-take-le count tokens fits in rest_end (take count tokens) i (omega arith)
 
-  open_here : (ar : List ℕ) (i n : ℕ) → 0 < i → i ≤ count → open_terms ar (drop i (take count tokens)) ≡ says n → open_terms ar (drop (i - 1) (take count tokens)) ≡ closes ar (get_or tokens (i - 1) 0) n
+  open_here : (ar : List ℕ) (i n : ℕ) → 0 < i → i ≤ count → open_terms ar (drop i (take count tokens)) ≡ says n
+      → open_terms ar (drop (i - 1) (take count tokens)) ≡ closes ar (get_or tokens (i - 1) 0) n
   unfolding open_terms ◌>>=◌
   open_here ar i n h l e =
       let p : i - 1 + 1 ≡ i = omega arith in

@@ -22,7 +22,8 @@ is_one_term-requires c =
 
 pub returns-then-tokens-ge-VARIABLE : goal.returns-then-tokens-ge-VARIABLE
 returns-then-tokens-ge-VARIABLE c =
-    left_bare (read (goal.at.returns-then-tokens-ge-VARIABLE c).After-term_line-it) _ c.in-Got.is (sym c.is_one_term.ensures ∙ c.if-is_one_term.true) c.if-tokens-ge-VARIABLE.true c.no_side-then-tokens-ge-VARIABLE.ensures
+    left_bare (read (goal.at.returns-then-tokens-ge-VARIABLE c).After-term_line-it) _ c.in-Got.is
+    (sym c.is_one_term.ensures ∙ c.if-is_one_term.true) c.if-tokens-ge-VARIABLE.true c.no_side-then-tokens-ge-VARIABLE.ensures
 
 pub line_up-o-requires : goal.line_up-o-requires
 line_up-o-requires c =
