@@ -16,7 +16,7 @@ use values::{BYTE, part_of};
 use woven::{HEADS, TARGET};
 
 // The arguments of a symbol that are still to be walked: so many, from the argument `first` on; and the targets that are wanted of the symbol.
-#[derive(Drop)]
+#[derive(Clone, Copy)]
 struct Arguments {
     symbol: u8,
     first: u64,

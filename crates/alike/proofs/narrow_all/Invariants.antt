@@ -1,0 +1,10 @@
+-- `alike::narrow_all` meets its contract. The invariant: the masks before d are narrowed.
+use Prim.Native.Nat.{◌-◌, ◌≤◌}
+use Rattle.alike.specs.Words.{NarrowedTo}
+use Rattle.alike.proofs.narrow_all.Given as goal
+
+abbrev pub invariant-loop-d : goal.invariant-loop-d
+invariant-loop-d l = (l.d ≤ 64) × NarrowedTo l.set l.initial.same l.d l.same
+
+abbrev pub decreases-loop-d : goal.decreases-loop-d
+decreases-loop-d l = 64 - l.d
