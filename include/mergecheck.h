@@ -1,6 +1,6 @@
 /* Judges a merging certificate: the whole verdict, and the two questions that it is put together from.
  *
- * Link with the archive that `rt staticlib checker` writes, target/staticlib/libchecker.a (x86-64 Linux).
+ * Link with the archive that `tests/archive target/staticlib` writes, target/staticlib/libchecker.a (x86-64 Linux).
  * The functions are proved to be safe for every input. `mergecheck` writes nothing into an answer buffer under MERGECHECK_BUFFER bytes,
  * and otherwise the answer's own bytes and no others; the two others fill every field of the answer that they are lent. Nothing is
  * asked of the caller but that the file is memory that may be read, that what is lent for the answer may be written, and that the two do

@@ -1,5 +1,4 @@
-// Links the archive that `rt staticlib checker` writes (x86-64); MERGECHECK_LIB names another folder that holds libchecker.a, as one that
-// `tests/archive` filled for another processor.
+// Links the archive that `tests/archive target/staticlib` writes (x86-64); MERGECHECK_LIB names another folder that holds libchecker.a.
 use std::path::PathBuf;
 
 fn main() {
