@@ -70,7 +70,8 @@ pub compare-requires : goal.compare-requires
 compare-requires c =
     let a = c.args in
     let j = c.requires.0 in
-    record { judgeable = judgeable_stays a.k a.m.now c.if-v-lt2.m (placed ((goal.at.compare-requires c).Joined-v-lt2)).long j; kept = none_kept a.arities.now a.words.now a.heads.now a.tokens.now a.k 255 _ }
+    let there = placed ((goal.at.compare-requires c).Joined-v-lt2) in
+    record { judgeable = judgeable_stays a.k a.m.now c.if-v-lt2.m there.long j; kept = none_kept a.arities.now a.words.now a.heads.now a.tokens.now a.k 255 _ }
 
 pub shape_of-m : goal.shape_of-m
 shape_of-m c =
@@ -80,4 +81,5 @@ pub returns : goal.returns
 returns c =
     let p = c.requires in
     let compared = c.compare.ensures in
-    (λ rule s left right. batch_compared p.0 p.1.few (placed ((goal.at.returns c).Joined-v-lt2)) rule left right (compared.compared rule s), compared.kept_2.1.long ∙ (placed ((goal.at.returns c).Joined-v-lt2)).long)
+    let there = placed ((goal.at.returns c).Joined-v-lt2) in
+    (λ rule s left right. batch_compared p.0 p.1.few there rule left right (compared.compared rule s), compared.kept_2.1.long ∙ there.long)

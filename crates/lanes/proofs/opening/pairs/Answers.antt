@@ -63,7 +63,10 @@ pub shape_of-m-then-compare : goal.shape_of-m-then-compare
 shape_of-m-then-compare c = c.compare.ensures.kept_2.1.long ∙ c.pair_up.ensures.both_touched.long ∙ c.loop-start.invariant.long ∙ c.fix_all.ensures.1.long
 
 pub returns-then-compare : goal.returns-then-compare
-returns-then-compare c = ((λ rule s left right e. absurd (true≢false e)), c.compare.ensures.kept_2.1.long ∙ c.pair_up.ensures.both_touched.long ∙ c.loop-start.invariant.long ∙ c.fix_all.ensures.1.long)
+returns-then-compare c = (
+  (λ rule s left right e. absurd (true≢false e)),
+  c.compare.ensures.kept_2.1.long ∙ c.pair_up.ensures.both_touched.long ∙ c.loop-start.invariant.long ∙ c.fix_all.ensures.1.long,
+)
 
 pub overflow_add-start : goal.overflow_add-start
 overflow_add-start c =
