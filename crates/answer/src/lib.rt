@@ -11,7 +11,7 @@ pub use verdict::write;
 use verdicts::CriticalPair;
 
 // What stands after a line's key: `-`, a number, or a critical pair's classes.
-#[derive(Drop)]
+#[derive(Clone, Copy)]
 pub enum Shown {
     Nothing,
     Number(u32),
@@ -19,7 +19,7 @@ pub enum Shown {
 }
 
 // The values of the seven lines after the first.
-#[derive(Drop)]
+#[derive(Clone, Copy)]
 pub struct Lines {
     pub refusal: Shown,
     pub line: Shown,

@@ -48,13 +48,12 @@ pub fn put_refused(out: &mut [u8], first: &[u8], number: u8, line: u32) -> usize
 fn found(pair: CriticalPair, examined: u32) -> Lines
     ensures { Says (seven_with dash dash (decimal pair.rule) (decimals (classes_of pair)) (decimal pair.class) dash (decimal examined)) result }
 {
-    let found = pair.class;
     Lines {
         refusal: Shown::Nothing,
         line: Shown::Nothing,
         rule: Shown::Number(pair.rule as u32),
         x: Shown::Classes(pair),
-        class: Shown::Number(found as u32),
+        class: Shown::Number(pair.class as u32),
         bad: Shown::Nothing,
         examined: Shown::Number(examined),
     }

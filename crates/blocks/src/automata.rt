@@ -32,7 +32,7 @@ fn mask_of(items: [u8; ROOM], n: usize) -> u64
 }
 
 // An automaton and the next line, or the refusal and its line.
-#[derive(Drop)]
+#[derive(Clone, Copy)]
 pub struct ReadTable {
     pub answer: Reached,
     pub table: Table,

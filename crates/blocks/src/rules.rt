@@ -15,7 +15,7 @@ use sides::{Ends, left_line, right_line};
 use tables::{RULE, RULES, Rules, SIDE, SYMBOLS};
 
 // How many tokens and variables a rule has, and the next line; or the refusal and its line.
-#[derive(Drop)]
+#[derive(Clone, Copy)]
 pub enum Ruled {
     Got {
         lefts: usize,
@@ -30,7 +30,7 @@ pub enum Ruled {
 }
 
 // A rule with its tokens.
-#[derive(Drop)]
+#[derive(Clone, Copy)]
 pub struct OneRule {
     pub answer: Ruled,
     pub left: [u8; ROOM],
@@ -102,7 +102,7 @@ fn put_side(tokens: &mut [u8; RULE * RULES], at: usize, side: [u8; ROOM], n: usi
 }
 
 // The rules and the next line, or the refusal and its line.
-#[derive(Drop)]
+#[derive(Clone, Copy)]
 pub struct ReadRules {
     pub answer: Reached,
     pub rules: Rules,

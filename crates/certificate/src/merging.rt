@@ -15,7 +15,7 @@ use sets::index;
 use tables::Merging;
 
 // The next line with the merging, or the refusal and its line.
-#[derive(Drop)]
+#[derive(Clone, Copy)]
 pub struct ReadMerging {
     pub answer: Reached,
     pub merging: Merging,

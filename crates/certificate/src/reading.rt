@@ -8,7 +8,7 @@ use blocks::places::Reached;
 use tables::{Merging, Tables};
 
 // Refusal 0: the file was read. Line 0: no line.
-#[derive(Drop)]
+#[derive(Clone, Copy)]
 pub struct Read {
     pub refusal: u8,
     pub line: u32,

@@ -24,7 +24,7 @@ pub fn mergecheck(file: &[u8], out: &mut [u8]) -> u64
 }
 
 // Which answer it is, and what it says.
-#[derive(Drop)]
+#[derive(Clone, Copy)]
 pub struct SharingNumbers {
     pub kind: u32,
     pub words: [u32; 4],
@@ -63,7 +63,7 @@ pub fn mergecheck_sharing(file: &[u8], answer: &mut [u32; 4]) -> u32
 }
 
 // Which answer it is, and what it says.
-#[derive(Drop)]
+#[derive(Clone, Copy)]
 pub struct ClosureNumbers {
     pub kind: u32,
     pub words: [u32; 9],

@@ -17,7 +17,7 @@ pub use second_question::closure;
 use verdicts::Verdict;
 
 // The refusal's number (0 when not malformed) and the length of the answer.
-#[derive(Drop)]
+#[derive(Clone, Copy)]
 pub struct Answered {
     pub number: u8,
     pub length: usize,

@@ -8,7 +8,7 @@ use sets::{WIDTH, has, with};
 use tables::{ROW, ROWS};
 
 // The rows of a table.
-#[derive(Drop)]
+#[derive(Clone, Copy)]
 pub struct Rows {
     pub bytes: [u8; ROWS],
 }

@@ -17,7 +17,7 @@ use tables::{Merging, ROW, Tables};
 use verdicts::Sharing;
 
 // The first number found, or nothing.
-#[derive(Drop)]
+#[derive(Clone, Copy)]
 pub enum First {
     At(usize),
     Nothing,

@@ -183,7 +183,7 @@ fn pass<'a>(pairs: &mut [u64], merged: &'a [u8], bad: &'a [u8], ar: &'a [u8], di
 }
 
 // The marked pairs: for each class a mask of states of the bad automaton.
-#[derive(Drop)]
+#[derive(Clone, Copy)]
 pub struct Marked {
     pub pairs: [u64; WIDTH],
 }

@@ -13,21 +13,21 @@ use sets::index;
 use tables::{SYMBOLS, VARIABLE};
 
 // The number of terms that tokens write, or that a token wants more than there are.
-#[derive(Drop)]
+#[derive(Clone, Copy)]
 pub enum Open {
     Terms(usize),
     Short,
 }
 
 // How many variables came in order, or that one did not.
-#[derive(Drop)]
+#[derive(Clone, Copy)]
 pub enum Lined {
     Count(u8),
     Broken,
 }
 
 // A side of a rule: how many tokens, how many variables, and the next place.
-#[derive(Drop)]
+#[derive(Clone, Copy)]
 pub enum Ends {
     Got {
         count: usize,
@@ -38,7 +38,7 @@ pub enum Ends {
 }
 
 // The same with its tokens.
-#[derive(Drop)]
+#[derive(Clone, Copy)]
 pub struct Side {
     pub answer: Ends,
     pub tokens: [u8; ROOM],

@@ -84,7 +84,7 @@ fn gain(n: u8, w: u64, s: [u64; WORDS], m: &[[u64; WORDS]], kids: [usize; ARITY]
 }
 
 // The lanes in which a target is reached by one of its words, and the place after those words.
-#[derive(Drop)]
+#[derive(Clone, Copy)]
 struct Reached {
     lanes: [u64; WORDS],
     next: usize,

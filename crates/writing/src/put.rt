@@ -23,7 +23,7 @@ pub fn put_bytes(out: &mut [u8], at: usize, bs: &[u8]) -> usize
 }
 
 // A number's digits, at the end of ten bytes: no number of 32 bits has more.
-#[derive(Drop)]
+#[derive(Clone, Copy)]
 pub struct Digits {
     pub bytes: [u8; 10],
     pub start: usize,
