@@ -19,7 +19,7 @@ use Rattle.verdicts.specs.declared.Sharing.{Sharing}
 use Rattle.verdicts.specs.declared.Sharing.TheVariants.{Refused as SharingRefused}
 use Rattle.verdicts.specs.declared.Closure.{Closure}
 use Rattle.verdicts.specs.declared.Closure.TheVariants.{Critical, Refused as ClosureRefused}
-use Rattle.verdicts.specs.Said.{class_then, classes_of, said_sharing, said_closure, Ended, EndedIn}
+use Rattle.verdicts.specs.Said.{class_then, said_sharing, said_closure, EndedIn}
 use Rattle.verdicts.proofs.Told.{shown_class, classes_are, line_back_lem, line_is}
 use Rattle.checker.specs.Numbers.{sharing_kind, sharing_numbers, closure_kind, closure_numbers}
 
