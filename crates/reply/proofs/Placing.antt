@@ -1,14 +1,14 @@
 -- A text that was written, or for which there was no room, is placed; and so is what the public operation leaves.
 use mathlib.Core.Path.{◌≡◌, refl, sym, ap, ◌∙◌}
-use mathlib.Core.List.{List, ◌++◌}
+use mathlib.Core.List.{List}
 use Prim.Native.Nat.{ℕ, ◌+◌, ◌-◌, ◌≤◌, ◌<◌}
 use native.Mathlib.Omega.{arith}
 use lib.ListN.{length, drop, length-append, length-drop}
 use lib.Seq.{length-take-le}
-use Rattle.io.specs.Counts.{IsPrefixLen}
+use Rattle.reply.specs.Placed.{IsPrefixLen}
 use Rattle.paper.specs.Limits.{least_buffer}
 use Rattle.paper.specs.Answer.{answer_of}
-use Rattle.paper.specs.Contract.{Returned, returned}
+use Rattle.paper.specs.Contract.{Returned}
 use Rattle.paper.proofs.Contract.{short_untouched, answered}
 use Rattle.answer.specs.Shown.{Wrote}
 use Rattle.checker.specs.declared.Answered.{Answered}
