@@ -33,7 +33,8 @@ module _ (k own : ℕ) (m : List (List ℕ)) (y l : ℕ) where
   other_set x ne = ap (λ (b : Bool). cond b (plus none y) (given k m l x)) (ne_eqb x own ne)
 
 -- With the prefix fixed and the next two variables paired behind `own`, the lanes are laid for the prefix and the class y.
-pub laid_own : (k : ℕ) (m : List (List ℕ)) (xs : List ℕ) (start y : ℕ) → Fixed k m xs → Paired k m (length xs + 1) (length xs + 2) start 512 → Laid k (xs ++ (y ∷ [])) start (with_own k (length xs) m y)
+pub laid_own : (k : ℕ) (m : List (List ℕ)) (xs : List ℕ) (start y : ℕ) → Fixed k m xs → Paired k m (length xs + 1) (length xs + 2) start 512
+    → Laid k (xs ++ (y ∷ [])) start (with_own k (length xs) m y)
 laid_own k m xs start y fixed paired =
     let own = length xs in
     let long : length (xs ++ (y ∷ [])) ≡ own + 1 = length-append xs (y ∷ []) in

@@ -118,7 +118,8 @@ transition_in : (arities : List ℕ) (n : ℕ) (value : List ℕ) → Says (Good
 unfolding transition transition_of from_numbers
 transition_in arities n value = said _ _ (anything _) go
   where
-    good : (f : ℕ) (qs : List ℕ) → ltb f (length arities) && all qs (λ q. ltb q n) ≡ true → eqb (length qs) (get_or arities f 0 + 1) ≡ true → GoodTransition arities n (f of drop_last qs gives last_of qs)
+    good : (f : ℕ) (qs : List ℕ) → ltb f (length arities) && all qs (λ q. ltb q n) ≡ true
+        → eqb (length qs) (get_or arities f 0 + 1) ≡ true → GoodTransition arities n (f of drop_last qs gives last_of qs)
     good f [] h e = absurd (omega (arith, (equal_iff 0 (get_or arities f 0 + 1)).0 e))
     good f (q ∷ qs) h e =
         let (l, b) = (and-eq-true_iff (ltb f (length arities)) (all (q ∷ qs) (λ q. ltb q n))).0 h in

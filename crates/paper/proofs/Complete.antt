@@ -42,7 +42,7 @@ use Rattle.paper.proofs.Spelling.{commas_decimals, commas_tokens, either_last, s
 
 digits_without : (b : ℕ) (bs : List ℕ) → b < digit0 → all bs digit ≡ true → Without b bs
 unfolding all
-digits_without b [] h a x3 = elim x3 [ ]
+digits_without b [] h a m = elim m [ ]
 digits_without b (d ∷ bs) h a (Memᴰ.head e) = let (low, high) = digit_facts d ((and-eq-true_iff (digit d) (all bs digit)).0 a).0 in omega arith
 digits_without b (d ∷ bs) h a (Memᴰ.tail m) = digits_without b bs h ((and-eq-true_iff (digit d) (all bs digit)).0 a).1 m
 

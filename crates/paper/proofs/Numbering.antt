@@ -53,7 +53,8 @@ module _ (ps cs : List ℕ) (p c : ℕ) (w : SamePartition ps cs) (fits : (i : �
       longer : length (ps ++ (p ∷ [])) ≡ length (cs ++ (c ∷ []))
       longer = length-append ps (p ∷ []) ∙ (ap (λ n. n + 1) w.count ∙ sym (length-append cs (c ∷ [])))
 
-      both : (i j : ℕ) → i < length (ps ++ (p ∷ [])) → j < length (ps ++ (p ∷ [])) → (get_or (ps ++ (p ∷ [])) i 0 ≡ get_or (ps ++ (p ∷ [])) j 0) ↔ (get_or (cs ++ (c ∷ [])) i 0 ≡ get_or (cs ++ (c ∷ [])) j 0)
+      both : (i j : ℕ) → i < length (ps ++ (p ∷ [])) → j < length (ps ++ (p ∷ []))
+          → (get_or (ps ++ (p ∷ [])) i 0 ≡ get_or (ps ++ (p ∷ [])) j 0) ↔ (get_or (cs ++ (c ∷ [])) i 0 ≡ get_or (cs ++ (c ∷ [])) j 0)
       both i j h l = elim (dec_lt i (length ps)) [
         | yes a ↦ elim (dec_lt j (length ps)) [
           | yes b ↦ rw (old_new ps p i a, old_new ps p j b, old_new cs c i (omega (arith, w.count)), old_new cs c j (omega (arith, w.count))) (w.same i j a b)

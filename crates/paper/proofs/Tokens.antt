@@ -18,7 +18,7 @@ use Rattle.paper.specs.Sides.{permitted}
 -- A test of all elements is a test of each.
 pub all_mem : {Y : Type 0} (test : Y → Bool) (ys : List Y) → all ys test ≡ true → (y : Y) → Memᴰ y ys → test y ≡ true
 unfolding all
-all_mem test [] e y x' = elim x' [ ]
+all_mem test [] e y m = elim m [ ]
 all_mem test (x ∷ ys) e y (Memᴰ.head h) = rw h ((and-eq-true_iff (test x) (all ys test)).0 e).0
 all_mem test (x ∷ ys) e y (Memᴰ.tail m) = all_mem test ys ((and-eq-true_iff (test x) (all ys test)).0 e).1 y m
 

@@ -22,7 +22,7 @@ place_listed (y ∷ ys) d zero h = Memᴰ.head refl
 place_listed (y ∷ ys) d (suc i) h = Memᴰ.tail (place_listed ys d i (omega arith))
 
 pub listed_place : {Y : Type 0} (d : Y) (ys : List Y) {y : Y} → Memᴰ y ys → (i : ℕ) × (i < length ys) × (get_or ys i d ≡ y)
-listed_place d [] x' = elim x' [ ]
+listed_place d [] m = elim m [ ]
 listed_place d (x ∷ ys) (Memᴰ.head e) = (0, omega arith, sym e)
 listed_place d (x ∷ ys) (Memᴰ.tail m) = let (i, h, e) = listed_place d ys m in (suc i, omega arith, e)
 

@@ -44,7 +44,17 @@ module _ (M : Automaton) (R : List Rule)
   unfolding Acritical
   carried {q} rule m σ complete allowed left = elim (gives_decided M (entry σ) rule.right q) [
     | yes right ↦ right
-    | no not_right ↦ absurd (acritical (record { number = (mem_nth m).0; rule = rule; listed = (mem_nth m).1; σ = σ; complete = complete; allowed = allowed; q = q; left = left; not_right = not_right }))
+    | no not_right ↦ absurd (acritical (record {
+      number = (mem_nth m).0;
+      rule = rule;
+      listed = (mem_nth m).1;
+      σ = σ;
+      complete = complete;
+      allowed = allowed;
+      q = q;
+      left = left;
+      not_right = not_right;
+    }))
   ]
 
   -- One rule at the root.

@@ -41,7 +41,8 @@ module _ {arities tokens : List ℕ} {near : ℕ} where
       let w = first_here arities tokens at n ts rest s in
       subst (EachRow (λ x. 64 + x ≡ near → ⊥)) (sym w.same) (l w.term _ w.spells beside ls w.others rest (record { ranked = w.ranked; reads = v.rest w.term _ w.spells }))
 
-  pub lacks_symbol : {at n : ℕ} → Stands arities tokens at → get_or tokens at 0 < 64 → get_or arities (get_or tokens at 0) 0 ≡ n → LacksRow arities tokens near (at + 1) n → Lacks arities tokens near at
+  pub lacks_symbol : {at n : ℕ} → Stands arities tokens at → get_or tokens at 0 < 64 → get_or arities (get_or tokens at 0) 0 ≡ n
+      → LacksRow arities tokens near (at + 1) n → Lacks arities tokens near at
   lacks_symbol {at = at} s hs arity ls t rest w =
       let here = symbol_here arities tokens at (inside s) hs t rest w in
       subst (Without near) (sym here.same) (over (ls here.row rest (rw arity at here.spells)))

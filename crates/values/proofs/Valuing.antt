@@ -53,7 +53,8 @@ module _ {arities words heads tokens : List ℕ} {near k : ℕ} where
 -- A symbol's words may be gathered into its sheet.
 module _ {arities words heads tokens : List ℕ} {near k at n : ℕ} {ends : List ℕ} {m mid : List (List ℕ)} (v : Valuable arities words heads tokens near k at ends m)
     (hs : get_or tokens at 0 < 64) (arity : get_or arities (get_or tokens at 0) 0 ≡ n) (long : 52 * k ≤ length mid) where
-  gatherable : (kids : List ℕ) → ((j : ℕ) → j < n → Room k mid (get_or kids j 0)) → ((j : ℕ) → j < n → Apart k (get_or kids j 0) (at * k)) → Gatherable words heads (get_or tokens at 0) n k mid kids (at * k)
+  gatherable : (kids : List ℕ) → ((j : ℕ) → j < n → Room k mid (get_or kids j 0)) → ((j : ℕ) → j < n → Apart k (get_or kids j 0) (at * k))
+      → Gatherable words heads (get_or tokens at 0) n k mid kids (at * k)
   gatherable kids kr ka = let f = get_or tokens at 0 in record {
     indexed = v.ready.indexed;
     symbol = hs;

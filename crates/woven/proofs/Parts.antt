@@ -34,7 +34,8 @@ module _ (rows : List ℕ) where
   unfolding word_at symbol_at packed
   word_below i small = omega (arith, small (i * 5 + 1), small (i * 5 + 2), small (i * 5 + 3), small (i * 5 + 4), small (i * 5))
 
-  pub targets_rise : ((x : ℕ) → get_or rows x 0 < 64) → (i j : ℕ) → word_at rows i < word_at rows j → part (word_at rows i) 4 ≡ part (word_at rows j) 4 → part (word_at rows i) 3 ≤ part (word_at rows j) 3
+  pub targets_rise : ((x : ℕ) → get_or rows x 0 < 64) → (i j : ℕ) → word_at rows i < word_at rows j
+      → part (word_at rows i) 4 ≡ part (word_at rows j) 4 → part (word_at rows i) 3 ≤ part (word_at rows j) 3
   unfolding word_at symbol_at packed
   targets_rise small i j l e =
       let p = word_parts i small in

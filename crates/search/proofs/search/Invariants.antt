@@ -14,7 +14,8 @@ decreases-classes l =
 
 abbrev pub invariant-lanes : goal.invariant-lanes
 invariant-lanes l =
-    AtLane l.arities l.words l.heads l.rules l.k l.budget l.most l.size l.rule l.tokens l.v l.lanes l.passed1 l.passed0 l.m0 l.m1 l.m2 l.variables l.right l.leads1 l.x0 l.x1 l.x2 l.m l.initial.examined l.j l.examined
+    AtLane l.arities l.words l.heads l.rules l.k l.budget l.most l.size l.rule l.tokens l.v l.lanes
+    l.passed1 l.passed0 l.m0 l.m1 l.m2 l.variables l.right l.leads1 l.x0 l.x1 l.x2 l.m l.initial.examined l.j l.examined
 
 abbrev pub decreases-lanes : goal.decreases-lanes
 decreases-lanes l =
@@ -22,7 +23,8 @@ decreases-lanes l =
 
 abbrev pub invariant-third : goal.invariant-third
 invariant-third l =
-    AtThird l.arities l.words l.heads l.rules l.k l.budget l.most l.size l.rule l.tokens l.v l.lanes l.passed1 l.passed0 l.m0 l.m1 l.m2 l.variables l.right l.leads1 l.x0 l.x1 l.initial.m l.m l.initial.examined l.x2 l.examined
+    AtThird l.arities l.words l.heads l.rules l.k l.budget l.most l.size l.rule l.tokens l.v l.lanes
+    l.passed1 l.passed0 l.m0 l.m1 l.m2 l.variables l.right l.leads1 l.x0 l.x1 l.initial.m l.m l.initial.examined l.x2 l.examined
 
 abbrev pub decreases-third : goal.decreases-third
 decreases-third l =
@@ -30,7 +32,8 @@ decreases-third l =
 
 abbrev pub invariant-second : goal.invariant-second
 invariant-second l =
-    AtChoice l.arities l.words l.heads l.rules l.k l.budget l.most l.size l.rule l.tokens l.v l.lanes l.passed1 l.passed0 l.m0 l.m1 l.m2 l.variables l.right l.leads1 1 (l.x0 ∷ []) l.open1 l.initial.m l.m l.initial.examined l.x1 l.examined
+    AtChoice l.arities l.words l.heads l.rules l.k l.budget l.most l.size l.rule l.tokens l.v l.lanes
+    l.passed1 l.passed0 l.m0 l.m1 l.m2 l.variables l.right l.leads1 1 (l.x0 ∷ []) l.open1 l.initial.m l.m l.initial.examined l.x1 l.examined
 
 abbrev pub decreases-second : goal.decreases-second
 decreases-second l =
@@ -38,7 +41,8 @@ decreases-second l =
 
 abbrev pub invariant-first : goal.invariant-first
 invariant-first l =
-    AtChoice l.arities l.words l.heads l.rules l.k l.budget l.most l.size l.rule l.tokens l.v l.lanes l.passed1 l.passed0 l.m0 l.m1 l.m2 l.variables l.right l.leads1 0 [] l.open0 l.initial.m l.m l.initial.examined l.x0 l.examined
+    AtChoice l.arities l.words l.heads l.rules l.k l.budget l.most l.size l.rule l.tokens l.v l.lanes
+    l.passed1 l.passed0 l.m0 l.m1 l.m2 l.variables l.right l.leads1 0 [] l.open0 l.initial.m l.m l.initial.examined l.x0 l.examined
 
 abbrev pub decreases-first : goal.decreases-first
 decreases-first l =

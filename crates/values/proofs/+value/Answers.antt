@@ -226,7 +226,8 @@ gather-requires-2 t c =
     let b3 = ahead_behind a2 s2 c.sheet_of-3.ensures c.args.at (omega (arith, v1.valued.forward, v2.valued.forward)) in
     let v3 = c.value-after.ensures in
     let a3 = ahead_next a2 s2 (v3.valued, v3.kept) in
-    let n : get_or c.args.arities.now (get_or c.args.tokens.now c.args.at 0) 0 ≡ 3 = omega (arith, c.arity-n.ensures, c.requires.ready.ranks (get_or c.args.tokens.now c.args.at 0), c.if-n-eq0.false, c.if-n-eq1.false, c.if-n-eq2.false) in
+    let n : get_or c.args.arities.now (get_or c.args.tokens.now c.args.at 0) 0 ≡ 3 =
+    omega (arith, c.arity-n.ensures, c.requires.ready.ranks (get_or c.args.tokens.now c.args.at 0), c.if-n-eq0.false, c.if-n-eq1.false, c.if-n-eq2.false) in
     gatherable_three c.requires c.if-f-ge-VARIABLE.false n a3.room _ _ _ b1 b2 b3
 
 pub keep-requires-2 : goal.keep-requires-2
@@ -261,7 +262,8 @@ returns t c =
     let p1 = within_room (ahead_stands a0 s0) in
     let p2 = within_room (ahead_stands a1 s1) in
     let p3 = within_room (ahead_stands a2 s2) in
-    let n : get_or c.args.arities.now (get_or c.args.tokens.now c.args.at 0) 0 ≡ 3 = omega (arith, c.arity-n.ensures, c.requires.ready.ranks (get_or c.args.tokens.now c.args.at 0), c.if-n-eq0.false, c.if-n-eq1.false, c.if-n-eq2.false) in
+    let n : get_or c.args.arities.now (get_or c.args.tokens.now c.args.at 0) 0 ≡ 3 =
+    omega (arith, c.arity-n.ensures, c.requires.ready.ranks (get_or c.args.tokens.now c.args.at 0), c.if-n-eq0.false, c.if-n-eq1.false, c.if-n-eq2.false) in
     let next : c.value-after.result ≤ 48 = omega (arith, a3.row.room) in
     let e1 = c.sheet_of.ensures in
     let e2 = c.sheet_of-2.ensures in
