@@ -4,7 +4,7 @@ use Rattle.theory.specs.Term.{Term}
 use Rattle.theory.specs.Preorder.{preorder}
 use Rattle.theory.specs.Rewriting.{Rule, variable_count}
 use Rattle.paper.specs.Limits.{most_symbols, most_arity, most_states, most_transitions, most_tokens}
-use Rattle.paper.specs.Certificate.{row as paperRow}
+use Rattle.paper.specs.Certificate.{row as paper_row}
 use Rattle.paper.specs.Format.{Reading, refused, gave}
 use Rattle.tables.specs.Held.{side_of}
 use Rattle.fields.specs.Line.{kind_at, line_row}
@@ -40,10 +40,10 @@ pub record SideRead (tokens : List ℕ) (n : ℕ) (side : Term ℕ) : Type 0 whe
   pub few : n ≤ most_tokens
 
 -- A rule that was read: its sides, and how many variables it has.
-pub record RuleRead (file : List ℕ) (reading : Reading Rule) (leftTokens right_tokens : List ℕ) (lefts rights variables : ℕ) (c : Cursor) : Type 0 where
+pub record RuleRead (file : List ℕ) (reading : Reading Rule) (left_tokens right_tokens : List ℕ) (lefts rights variables : ℕ) (c : Cursor) : Type 0 where
   pub what : Rule
   pub is : reading ≡ gave what c.line (drop c.at file)
-  pub left : SideRead leftTokens lefts what.left
+  pub left : SideRead left_tokens lefts what.left
   pub right : SideRead right_tokens rights what.right
   pub counted : variables ≡ variable_count what
   pub placed : Placed file c
@@ -93,8 +93,8 @@ ruled_stop (NoRule q line) = Refused q line
 -- The kinds of an automaton's lines: a number, a list of final states, a count of transitions; and that of its transitions, where a line has entries.
 pub record TableKinds (kind row : ℕ) : Type 0 where
   pub kinds : kind + 2 < 10
-  pub states_bound : ((paperRow (kind_at kind)).least ≡ 1) × ((paperRow (kind_at kind)).greatest ≡ most_states)
+  pub states_bound : ((paper_row (kind_at kind)).least ≡ 1) × ((paper_row (kind_at kind)).greatest ≡ most_states)
   pub final : FinalKind (kind_at (kind + 1))
-  pub most_trans : (paperRow (kind_at (kind + 2))).greatest ≡ most_transitions
+  pub most_trans : (paper_row (kind_at (kind + 2))).greatest ≡ most_transitions
   pub listed : row < 14
   pub entries : (line_row row).empty ≡ false

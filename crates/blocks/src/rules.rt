@@ -1,7 +1,7 @@
 // The rules' lines: two for each rule, whose tokens are kept as bytes.
 ghost use Rattle.std.specs.Prelude.{◌≡◌, List, ◌++◌, ℕ, ◌+◌, ◌*◌, ◌≤◌, ◌<◌, length, take, drop};
 ghost use Rattle.paper.specs.Limits.{most_rules, most_tokens};
-ghost use Rattle.paper.specs.Format.{rule as paperRule, times};
+ghost use Rattle.paper.specs.Format.{rule as paper_rule, times};
 ghost use Rattle.fields.specs.Padded.{padded};
 ghost use Rattle.fields.specs.Said.{Placed};
 ghost use Rattle.blocks.specs.Packed.{packed_rules, no_rules};
@@ -52,7 +52,7 @@ fn no_rule(refusal: u8, line: u32) -> OneRule
 fn rule(c: Cursor, file: &[u8], arities: &[u8; SYMBOLS], symbols: u32) -> OneRule
     requires { Signature arities.now symbols × Placed file.now c }
     ensures { HandedRule file.now
-        (paperRule (take symbols arities.now) c.line (drop c.at file.now)) result.left result.right result.answer }
+        (paper_rule (take symbols arities.now) c.line (drop c.at file.now)) result.left result.right result.answer }
 {
     let l = left_line(c, file, arities, symbols);
     let a = l.answer;
@@ -149,7 +149,7 @@ pub fn read_rules(
 ) -> ReadRules
     requires { (n ≤ most_rules) × Signature arities.now symbols × Placed file.now start }
     ensures { Handed file.now packed_rules no_rules
-        (times n (paperRule (take symbols arities.now)) start.line (drop start.at file.now)) result.answer result.rules }
+        (times n (paper_rule (take symbols arities.now)) start.line (drop start.at file.now)) result.answer result.rules }
 {
     let mut c = start;
     let mut tokens = [0u8; RULE * RULES];

@@ -1,6 +1,6 @@
 // The line `merge`, read against tables that are there.
 ghost use Rattle.std.specs.Prelude.{◌≡◌, ◌+◌, ◌≤◌, ◌<◌, max, take, drop};
-ghost use Rattle.theory.specs.Automaton.{classes as classCount};
+ghost use Rattle.theory.specs.Automaton.{classes as class_count};
 ghost use Rattle.paper.specs.Limits.{most_states};
 ghost use Rattle.fields.specs.Said.{Placed};
 ghost use Rattle.blocks.specs.Packed.{merging_of, no_merging};
@@ -55,7 +55,7 @@ fn larger(a: u8, b: u8) -> u8
 // The number of classes among the first n entries: the largest entry plus one.
 fn count_classes(items: [u8; ROOM], n: usize) -> usize
     requires { n ≤ 64 }
-    ensures { result ≡ classCount (take n items) }
+    ensures { result ≡ class_count (take n items) }
 {
     let mut most: u8 = 0;
     let mut i = 0;

@@ -11,7 +11,7 @@ use lib.ListN.{drop}
 use Rattle.paper.specs.Checked.{Checked, fault, says, ◌>>=◌, ◌>>◌, ◌unless◌}
 use Rattle.paper.specs.Lines.{Said, after, ended}
 use Rattle.paper.specs.Fields.{each, entries, number}
-use Rattle.paper.specs.Tables.{numbers as numbersIn4, numbers_of}
+use Rattle.paper.specs.Tables.{numbers as numbers_in_4, numbers_of}
 use Rattle.paper.proofs.Smallest.{decided}
 use Rattle.paper.proofs.Checked.{silent, parts}
 use Rattle.paper.proofs.Lines.{entries_sound}
@@ -197,8 +197,8 @@ unfolding each
 each_same f g h [] = refl
 each_same f g h (e ∷ es) = rw (h e, each_same f g h es)
 
-pub values_numbers : (value : List ℕ) → values 0 value ≡ numbersIn4 value
-unfolding values numbersIn4
+pub values_numbers : (value : List ℕ) → values 0 value ≡ numbers_in_4 value
+unfolding values numbers_in_4
 values_numbers value = each_same (read_on 0 0 0) number (λ e. read_number 0 e (λ z. omega arith) ∙ coded_zero (number e)) (entries value)
 
 pub values_numbers_of : (empty : Bool) (value : List ℕ) → values_of 0 empty value ≡ numbers_of empty value

@@ -13,7 +13,7 @@ use Rattle.theory.specs.Automaton.{◌of◌gives◌}
 use Rattle.paper.specs.Checked.{Checked, fault, says, ◌>>=◌, ◌>>◌, ◌unless◌}
 use Rattle.paper.specs.Fields.{all}
 use Rattle.paper.specs.Certificate.{Kind, row, Arities, Merge}
-use Rattle.paper.specs.Tables.{within, number_list, arity_list, ascending as paperAscending, final_list, last_of, transition_of, from_numbers, transition, numbered as paperNumbered, class_list}
+use Rattle.paper.specs.Tables.{within, number_list, arity_list, ascending as paper_ascending, final_list, last_of, transition_of, from_numbers, transition, numbered as paper_numbered, class_list}
 use Rattle.paper.proofs.Smallest.{decided}
 use Rattle.fields.specs.declared.cursor.Sort.{Sort}
 use Rattle.fields.specs.declared.cursor.Sort.TheVariants.{Numbers}
@@ -95,8 +95,8 @@ same_bump k c h = elim (decided (eqb c k)) [
   | inr p ↦ let d : c < k = omega (arith, eqb-false c k p) in rw (p, bump) (omega arith)
 ]
 
-same_numbered : (k : ℕ) (cs : List ℕ) → numbered k cs ≡ paperNumbered k cs
-unfolding numbered paperNumbered
+same_numbered : (k : ℕ) (cs : List ℕ) → numbered k cs ≡ paper_numbered k cs
+unfolding numbered paper_numbered
 same_numbered k [] = refl
 same_numbered k (c ∷ cs) = elim (decided (leb c k)) [
   | inl p ↦ let h = leb-true c k p in rw (p, le-ltb k c h, numbered) (rw (same_bump k c h) (same_numbered (max k (suc c)) cs))
@@ -107,7 +107,7 @@ pub merge_judge : (n : ℕ) (value : List ℕ) → (ranged (Numbers 31 31) false
 unfolding class_list row
 merge_judge n value = rw (list_judge Merge value refl) (bind_same (ranged (Numbers 31 31) false value) _ _ test)
   where
-    test : (cs : List ℕ) → checking (merge_check n) cs ≡ (6 unless eqb (length cs) n >> (11 unless paperNumbered 0 cs >> says cs))
+    test : (cs : List ℕ) → checking (merge_check n) cs ≡ (6 unless eqb (length cs) n >> (11 unless paper_numbered 0 cs >> says cs))
     test cs = elim (decided (eqb (length cs) n)) [
       | inr p ↦ unfold ◌unless◌ ◌>>◌ in (rw p (check_fails (merge_check n) cs 5 (merge_count n cs (eqb-false (length cs) n p))))
       | inl p ↦ elim (decided (numbered 0 cs)) [
@@ -117,13 +117,13 @@ merge_judge n value = rw (list_judge Merge value refl) (bind_same (ranged (Numbe
     ]
 
 -- `final`.
-same_above : (v : ℕ) (ns : List ℕ) → above v ns ≡ paperAscending (suc v) ns
-unfolding above paperAscending
+same_above : (v : ℕ) (ns : List ℕ) → above v ns ≡ paper_ascending (suc v) ns
+unfolding above paper_ascending
 same_above v [] = refl
 same_above v (w ∷ ns) = ap (λ b. ltb v w && b) (same_above w ns)
 
-same_ascending : (ns : List ℕ) → ascending ns ≡ paperAscending 0 ns
-unfolding ascending paperAscending
+same_ascending : (ns : List ℕ) → ascending ns ≡ paper_ascending 0 ns
+unfolding ascending paper_ascending
 same_ascending [] = refl
 same_ascending (v ∷ ns) = rw (le-leb 0 v (omega arith)) (same_above v ns)
 
@@ -140,7 +140,7 @@ below_flip n q h = elim (decided (ltb q n)) [
   | inr p ↦ rw (p, lt-leb q (n - 1) (omega (arith, ltb-false q n p)))
 ]
 
-final_check_lem : (ns : List ℕ) → checking final_check ns ≡ (7 unless paperAscending 0 ns >> says ns)
+final_check_lem : (ns : List ℕ) → checking final_check ns ≡ (7 unless paper_ascending 0 ns >> says ns)
 unfolding ◌unless◌ ◌>>◌
 final_check_lem ns = elim (decided (ascending ns)) [
   | inl p ↦ rw (← same_ascending ns, p) (check_passes final_check ns (final_ok ns p))
@@ -148,7 +148,7 @@ final_check_lem ns = elim (decided (ascending ns)) [
 ]
 
 final_test : (ns : List ℕ) (t : List ℕ → Bool) (a b c : Bool) → t ns ≡ b → (t ns ≡ true → a ≡ true) → t ns ≡ not c
-    → ((5 unless not c >> says ns) >>= checking final_check) ≡ ((5 unless a >> says ns) >>= (λ qs. 5 unless t qs >> (7 unless paperAscending 0 qs >> says qs)))
+    → ((5 unless not c >> says ns) >>= checking final_check) ≡ ((5 unless a >> says ns) >>= (λ qs. 5 unless t qs >> (7 unless paper_ascending 0 qs >> says qs)))
 unfolding ◌unless◌ ◌>>◌ ◌>>=◌
 final_test ns t a true true e h k = absurd (false≢true (sym k ∙ e))
 final_test ns t true true false e h k = rw e (final_check_lem ns)
@@ -167,7 +167,7 @@ final_judge K n value z l g =
     (λ ns. final_test ns (λ qs. all qs (λ q. ltb q n)) (all ns (within K)) (all ns (λ q. ltb q n)) (beyond (Numbers (n - 1) (n - 1)) ns) refl
     (below_all n K z g ns) (none_beyond _ (λ q. ltb q n) (most_test (λ q. ltb q n) (n - 1) (λ q. below_flip n q l)) ns))
     ∙ sym (bind_bind (values_of 0 (row K).empty value) (λ ns. 5 unless all ns (within K) >> says ns)
-    (λ qs. 5 unless all qs (λ q. ltb q n) >> (7 unless paperAscending 0 qs >> says qs))))
+    (λ qs. 5 unless all qs (λ q. ltb q n) >> (7 unless paper_ascending 0 qs >> says qs))))
 
 -- A transition's line.
 shape : (arities : List ℕ) (f : ℕ) (qs : List ℕ) → length qs ≡ get_or arities f 0 + 1 → get_or arities f 0 ≤ 3 → moved arities (trans_of (f ∷ qs)) ≡ (f of drop_last qs gives last_of qs)

@@ -13,7 +13,7 @@ use Rattle.paper.specs.Checked.{Checked, fault, says, ◌>>=◌, ◌>>◌, ◌un
 use Rattle.paper.specs.Lines.{Said}
 use Rattle.paper.specs.Fields.{all, each, entries, number, is_number}
 use Rattle.paper.specs.Certificate.{Kind, row, Row as PaperRow}
-use Rattle.paper.specs.Tables.{numbers as paperNumbers, numbers_of, within, single_number}
+use Rattle.paper.specs.Tables.{numbers as paper_numbers, numbers_of, within, single_number}
 use Rattle.paper.specs.Format.{at_line, line_of, fixed}
 use Rattle.paper.proofs.Smallest.{decided}
 use Rattle.paper.proofs.Checked.{silent}
@@ -42,7 +42,7 @@ judged file K (numbers ns at) = found (drop at file) (one_of K ns)
 
 -- no value is not one number, whether the row allows it or not
 none_judge : (e : Bool) (K : Kind) → (values_of 0 true [] >>= one_of K) ≡ (numbers_of e [] >>= one_of K)
-unfolding values_of numbers_of paperNumbers each entries number is_number one_of ◌unless◌ ◌>>◌ ◌>>=◌
+unfolding values_of numbers_of paper_numbers each entries number is_number one_of ◌unless◌ ◌>>◌ ◌>>=◌
 none_judge true K = refl
 none_judge false K = refl
 

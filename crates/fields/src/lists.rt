@@ -3,7 +3,7 @@ ghost use Rattle.std.specs.Prelude.{◌≡◌, ℕ, ◌+◌, ◌-◌, ◌≤◌,
 ghost use Rattle.fields.specs.Value.{entries_from, value_of, sort_kind};
 ghost use Rattle.fields.specs.Line.{line_row, row_at, Standing};
 ghost use Rattle.fields.specs.Lines.{items_of, entry_line};
-ghost use Rattle.fields.specs.Listed.{refused_items, exceeds as isBeyond, seen_none, seen_with, kept, done, list_of, Limited};
+ghost use Rattle.fields.specs.Listed.{refused_items, exceeds as is_beyond, seen_none, seen_with, kept, done, list_of, Limited};
 ghost use Rattle.fields.specs.Said.{Placed};
 ghost use Rattle.fields.specs.Trans.{refusal_in};
 
@@ -65,7 +65,7 @@ fn seen_none() -> Seen
 
 // Whether an entry, perhaps the first of its line, is past its limit.
 fn exceeds(sort: Sort, begins: bool, value: u32) -> bool
-    ensures { result ≡ isBeyond sort begins value }
+    ensures { result ≡ is_beyond sort begins value }
 {
     match sort {
         Sort::Numbers { first, rest } => {
@@ -88,7 +88,7 @@ fn exceeds(sort: Sort, begins: bool, value: u32) -> bool
 
 // Whether an entry was past its limit, this one included.
 fn over_with(over: bool, sort: Sort, begins: bool, value: u32) -> bool
-    ensures { result ≡ over || isBeyond sort begins value }
+    ensures { result ≡ over || is_beyond sort begins value }
 {
     if over {
         return true;

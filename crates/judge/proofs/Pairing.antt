@@ -43,7 +43,7 @@ module _ (pairs : List ℕ) (finals bad m : ℕ) where
       past e (nobody h) = nobody (λ r l u. before e r l (λ i. h r i (omega arith)))
       past e (this {q = q} u f h) = this {q = q} (omega arith) f (λ r l v. before e r l (λ i. h r i v))
 
-module _ (M B : Automaton) (inM : InRange M) (in_b : InRange B) (finM : FinalInRange M) (finB : FinalInRange B) (pairs : List ℕ) (finals bad : ℕ)
+module _ (M B : Automaton) (in_m : InRange M) (in_b : InRange B) (fin_m : FinalInRange M) (fin_b : FinalInRange B) (pairs : List ℕ) (finals bad : ℕ)
     (marked : (q p : ℕ) → (mem (get_or pairs q 0) p ≡ true) ↔ Share M B q p)
     (final-class : (q : ℕ) → (mem finals q ≡ true) ↔ Memᴰ q M.final)
     (final-state : (p : ℕ) → p < B.states → (mem bad p ≡ true) ↔ Memᴰ p B.final) where
@@ -59,7 +59,7 @@ module _ (M B : Automaton) (inM : InRange M) (in_b : InRange B) (finM : FinalInR
         let (a, b) = (and-eq-true_iff (mem (get_or pairs q 0) p) (mem bad p)).0 s.passes in
         record {
           itself = record { class = (final-class q).0 f; state = (final-state p (omega (arith, s.high))).0 b; shared = (marked q p).0 a };
-          least = λ r w. s.first r (omega arith) ((and-eq-true_iff _ _).1 ((marked q r).1 w.shared, (final-state r (finB r w.state)).1 w.state));
+          least = λ r w. s.first r (omega arith) ((and-eq-true_iff _ _).1 ((marked q r).1 w.shared, (final-state r (fin_b r w.state)).1 w.state));
         }
     | inr f ↦ let g = rw (f, partner) at e in let z : ◌≡◌ {A = ℕ} 0 1 = cc in absurd (omega arith)
   ]
@@ -69,17 +69,17 @@ module _ (M B : Automaton) (inM : InRange M) (in_b : InRange B) (finM : FinalInR
   unfolding partner
   mate_none q e p w =
       let f = (final-class q).1 w.class in
-      smallest_none (λ p. mem (get_or pairs q 0) p && mem bad p) 0 B.states (rw (f, partner) at e) p (omega arith) (omega (arith, finB p w.state))
-      ((and-eq-true_iff _ _).1 ((marked q p).1 w.shared, (final-state p (finB p w.state)).1 w.state))
+      smallest_none (λ p. mem (get_or pairs q 0) p && mem bad p) 0 B.states (rw (f, partner) at e) p (omega arith) (omega (arith, fin_b p w.state))
+      ((and-eq-true_iff _ _).1 ((marked q p).1 w.shared, (final-state p (fin_b p w.state)).1 w.state))
 
   pub shared_is : shared_of pairs finals bad 0 M.states B.states ≡ sharing M B
   unfolding SharingMeans Suitable
   shared_is =
       let found = shared_of pairs finals bad 0 M.states B.states in
-      sym ((sharing_exact M B inM in_b finM finB found).1 (go found (first pairs finals bad B.states 0 M.states)))
+      sym ((sharing_exact M B in_m in_b fin_m fin_b found).1 (go found (first pairs finals bad B.states 0 M.states)))
     where
       go : (o : Sharing) → First pairs finals bad B.states 0 M.states o → SharingMeans M B o
-      go Sharing.nothing (nobody h) = λ q p f g s. mate_none q (h q (omega arith) (omega (arith, finM q f))) p (record { class = f; state = g; shared = s })
+      go Sharing.nothing (nobody h) = λ q p f g s. mate_none q (h q (omega arith) (omega (arith, fin_m q f))) p (record { class = f; state = g; shared = s })
       go (Sharing.shared q p) (this u e h) =
           let s = mate_some q p e in
           (record { itself = (p, s.itself); least = λ r (o, w). elim (dec_le q r) [ yes l ↦ l | no l ↦ absurd (mate_none r (h r (omega arith) (omega arith)) o w) ] }, s)

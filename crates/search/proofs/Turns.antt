@@ -153,18 +153,18 @@ module _ {arities words heads : List ℕ} {rules : Rules} {k budget most size r 
         level_next A Rs l going n' (e ∙ level_end A Rs inner (omega (arith, is-m', all-tried))) (omega (arith, e, inner.within)) (subst (Clear A Rs) (sym e) inner.clear)
 
     -- It is not gone into.
-    module _ {type_size mask : ℕ} (is_size : type_size ≡ k ^ rest v (i + 1)) (opened : Opened A rule v xs mask) (gone : mem mask y ≡ false) where
+    module _ {size_of mask : ℕ} (is_size : size_of ≡ k ^ rest v (i + 1)) (opened : Opened A rule v xs mask) (gone : mem mask y ≡ false) where
       calm : (d : ℕ) → d < k ^ rest v (i + 1) → Calm A Rs (case_at A Rs (n + d))
       unfolding woven_automaton
       calm = passed_calm A Rs t.ok.in_range t.ok.shaped v i r rule xs budget start y n l going (rule_listed t.ok r t.listed) mask opened gone choice_low
 
-      pub passed_next : {n' : ℕ} → type_size ≤ most - n → n' ≡ n + type_size → Level A Rs v i r rule xs budget start (y + 1) n'
+      pub passed_next : {n' : ℕ} → size_of ≤ most - n → n' ≡ n + size_of → Level A Rs v i r rule xs budget start (y + 1) n'
       unfolding woven_automaton
       passed_next {n'} fits e =
           let is-n : n' ≡ n + k ^ rest v (i + 1) = e ∙ ap (λ m. n + m) is_size in
           level_next A Rs l going n' is-n (omega (arith, e, fits, l.within, t.is_most)) (subst (Clear A Rs) (sym is-n) (clear_run A Rs n (k ^ rest v (i + 1)) l.clear calm))
 
-      pub passed_stop : most - n < type_size → Answer t.ok budget (Stopped budget)
+      pub passed_stop : most - n < size_of → Answer t.ok budget (Stopped budget)
       unfolding woven_automaton
       passed_stop short = stopped t.ok budget (pass_stop A Rs r rule _ (rest v (i + 1)) n budget (level_run A Rs l going) l.within l.clear calm (omega (arith, short, is_size, t.is_most)))
 
