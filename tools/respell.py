@@ -1,7 +1,7 @@
 #!/usr/bin/env python3
 """Respells this repository's own definitions and lemmas: words in snake case, a dash only between two names of functions.
 
-usage: tools/respell.py [--check] [TOP]        TOP is a checkout that /opt/rattle/port/port.py has turned; the default is the one that holds this script
+usage: tools/respell.py [--check] [TOP]        TOP is a checkout that port.py of the kit has turned; the default is the one that holds this script
        tools/respell.py --table                prints the old and the new spelling of each name
 
 It turns names that the repository declares itself in specs/ and proofs/, in .antt files and in the ghost text of .rt files. Functions of src/, exported names, strings, and the names
