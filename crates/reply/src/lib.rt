@@ -1,7 +1,9 @@
 // The answers as a program lends them on: each length comes with what `&out[..k]` asks.
 #![tactic(auto)]
 
-ghost use Rattle.std.specs.Prelude.{◌≡◌, ◌≤◌, length, IfOk};
+ghost use Rattle.std.specs.Prelude.{◌≡◌, ◌<◌, length, take, IfOk};
+ghost use Rattle.std.specs.Io.{ReadsAtMost};
+ghost use Rattle.std.specs.Io.KnownBytes.{Consumes, IsAtEnd};
 ghost use Rattle.paper.specs.Computed.{sharing_of, closure_of};
 ghost use Rattle.paper.specs.Answer.{answer_of, sharing_answer, closure_answer};
 ghost use Rattle.reply.specs.Placed.{answer_to, Placed};
@@ -51,7 +53,9 @@ pub fn ask(letter: u8, file: &[u8], out: &mut [u8]) -> usize
 
 // Reads until the buffer is full or the input ends, and gives how many bytes then stand at its start.
 pub fn read_full<R: Read>(input: &mut R, buf: &mut [u8]) -> io::Result<usize>
-    ensures { IfOk result (λ n. n ≤ length buf.new) }
+    ensures in_bounds { ReadsAtMost result buf.new }
+    ensures bytes { IfOk result (λ n. Consumes (R.remaining input.old) (R.remaining input.new) (take n buf.new)) }
+    ensures to_the_end { IfOk result (λ n. n < length buf.new → IsAtEnd (R.remaining input.new)) }
 {
     let mut done = 0;
     while done < buf.len() {

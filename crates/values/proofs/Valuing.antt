@@ -50,6 +50,24 @@ module _ {arities words heads tokens : List ℕ} {near k : ℕ} where
     pub ahead_behind : {r : ℕ} → r ≡ sheet_of tokens p → (at : ℕ) → at < p → Behind at r
     ahead_behind e at h = let here = within_room ahead_stands in (⊎_elim (λ w. omega arith) (λ w. omega arith) (sheet_where tokens p), omega (arith, sheet_room arities tokens p ahead_stands))
 
+-- A symbol's arguments are valued one after the other: what is known after the first, the second and the third.
+module _ {arities words heads tokens : List ℕ} {near k at n : ℕ} {ends : List ℕ} {m : List (List ℕ)} (v : Valuable arities words heads tokens near k at ends m)
+    (hs : get_or tokens at 0 < 64) (e : n ≡ get_or arities (get_or tokens at 0) 0) where
+  module _ {next : ℕ} {ends' : List ℕ} {m' : List (List ℕ)} (some : 0 < n)
+      (w : Valued (moves arities words heads) arities tokens k m (at + 1) m' next × Kept (moves arities words heads) arities tokens k near m' ends') where
+    pub after_first : Ahead arities words heads tokens near k next (n - 1) ends' m'
+    after_first = ahead_next (ahead_first v hs e) some w
+
+    module _ {next₂ : ℕ} {ends₂ : List ℕ} {m₂ : List (List ℕ)} (more : 0 < n - 1)
+        (w₂ : Valued (moves arities words heads) arities tokens k m' next m₂ next₂ × Kept (moves arities words heads) arities tokens k near m₂ ends₂) where
+      pub after_second : Ahead arities words heads tokens near k next₂ (n - 1 - 1) ends₂ m₂
+      after_second = ahead_next after_first more w₂
+
+      pub after_third : {next₃ : ℕ} {ends₃ : List ℕ} {m₃ : List (List ℕ)} → 0 < n - 1 - 1
+          → Valued (moves arities words heads) arities tokens k m₂ next₂ m₃ next₃ × Kept (moves arities words heads) arities tokens k near m₃ ends₃
+          → Ahead arities words heads tokens near k next₃ (n - 1 - 1 - 1) ends₃ m₃
+      after_third last w₃ = ahead_next after_second last w₃
+
 -- A symbol's words may be gathered into its sheet.
 module _ {arities words heads tokens : List ℕ} {near k at n : ℕ} {ends : List ℕ} {m mid : List (List ℕ)} (v : Valuable arities words heads tokens near k at ends m)
     (hs : get_or tokens at 0 < 64) (arity : get_or arities (get_or tokens at 0) 0 ≡ n) (long : 52 * k ≤ length mid) where
