@@ -37,9 +37,6 @@ some_member a h n = elim (member_below a 64) [
 
 -- The classes with no smaller class in their masks, one class more.
 module _ (same : List ℕ) where
-  pub lowest_none : Lowest same 0 0
-  lowest_none d h = absurd (omega arith)
-
   module _ (n mask : ℕ) (old : Lowest same n mask) where
     pub lowest_in : (new : ℕ) → mem new ≡ plus (mem mask) n → Lowest same (n + 1) new
     lowest_in new is d h e =

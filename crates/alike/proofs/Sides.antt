@@ -17,7 +17,6 @@ use Rattle.values.specs.Standing.{Spells, SpellsRow}
 use Rattle.values.proofs.Standing.{spelled_inside, variable_here, symbol_here, no_terms, First, taken_first}
 use Rattle.alike.specs.declared.Arguments.{Arguments}
 use Rattle.alike.specs.Alike.{Calls, AlikeIn, AlikeRow, leaf, over, end, more}
-use Rattle.alike.specs.Words.{PlaceNarrowed}
 use Rattle.alike.specs.Sides.{rank, Written, TokenJoined, RowGiven, RowJoined, SideGiven, SideJoined}
 
 -- ---- how many subterms follow a token
@@ -89,13 +88,13 @@ module _ (arities tokens : List ℕ) where
     abbrev pub Others : Arguments → Arguments
     Others here = record { symbol = here.symbol; first = here.first + 1; left = here.left - 1; wanted = here.wanted }
 
-    pub inner_given : (at wanted : ℕ) → SideGiven words heads arities tokens x at → RowGiven words heads arities tokens x (Subterms at wanted) (at + 1)
-    inner_given at wanted given =
+    pub inner_given : ((g : ℕ) → get_or arities g 0 ≤ 3) → (at wanted : ℕ) → SideGiven arities tokens x at → RowGiven arities tokens x (Subterms at wanted) (at + 1)
+    inner_given ranks at wanted given =
         let v = inner at given.term.term given.term.rest given.term.spells in
         record {
-          walk = given.walk;
+          variable = given.variable;
           symbol = λ some. rank_some arities (get_or tokens at 0) some;
-          arguments = omega (arith, rank_most arities (get_or tokens at 0) given.walk.ranks);
+          arguments = omega (arith, rank_most arities (get_or tokens at 0) ranks);
           row = record { row = v.row; rest = given.term.rest; spells = v.spells };
         }
 
@@ -113,21 +112,21 @@ module _ (arities tokens : List ℕ) where
 
       module _ (some : 0 < here.left) where
         -- The first term of a row is given at the row's place.
-        pub first_given : RowGiven words heads arities tokens x here at → SideGiven words heads arities tokens x at
+        pub first_given : RowGiven arities tokens x here at → SideGiven arities tokens x at
         first_given given =
             let w = first_of at here.left given.row.row given.row.rest some given.row.spells in
-            record { walk = given.walk; term = record { term = w.term; rest = _; spells = w.spells } }
+            record { variable = given.variable; term = record { term = w.term; rest = _; spells = w.spells } }
 
         module _ (below : ℕ) (own sub : List ℕ) (next : ℕ) (r : RowJoined words heads arities tokens x (Subterms at below) (at + 1) own sub next) where
           -- The others stand behind the subterms of the first.
           others_spelled : (ts : Terms ℕ) (rest : List Token) (w : First arities tokens at (here.left - 1) ts rest) → SpellsRow arities tokens next (here.left - 1) w.others rest
           others_spelled ts rest w = let v = inner at w.term _ w.spells in record { ranked = w.ranked; reads = r.after v.row _ v.spells }
 
-          pub others_given : RowGiven words heads arities tokens x here at → RowGiven words heads arities tokens x (Others here) next
+          pub others_given : RowGiven arities tokens x here at → RowGiven arities tokens x (Others here) next
           others_given given =
               let w = first_of at here.left given.row.row given.row.rest some given.row.spells in
               record {
-                walk = given.walk;
+                variable = given.variable;
                 symbol = λ more. given.symbol some;
                 arguments = omega (arith, given.arguments);
                 row = record { row = w.others; rest = given.row.rest; spells = others_spelled given.row.row given.row.rest w };
@@ -159,11 +158,3 @@ module _ (arities tokens : List ℕ) where
       within = r.within;
       alike = λ t rest s d c hd m. let v = inner at t rest s in v.alike moves x c d all_mask (r.alike v.row rest v.spells d c hd m);
     }
-
--- ---- one place
-module _ (words heads : List ℕ) (x token : ℕ) (here : Arguments) (old new : List ℕ) where
-  pub token_other : (token ≡ x + 64 → ⊥) → new ≡ old → TokenJoined words heads x token here old new
-  token_other other same = record { long = ap length same; within = λ k c h. rw same at h; alike = λ e. absurd (other e) }
-
-  pub token_met : PlaceNarrowed words heads here.symbol here.first here.wanted old new → TokenJoined words heads x token here old new
-  token_met n = record { long = n.long; within = n.within; alike = λ e. n.alike }

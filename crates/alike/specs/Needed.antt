@@ -1,12 +1,11 @@
 -- The classes of a rule's variable that have to be looked at.
-use Rattle.std.specs.Prelude.{◌≡◌, true, false, List, ℕ, ◌≤◌, ◌<◌, length, get_or}
-use Rattle.paper.specs.Limits.{most_arity}
+use Rattle.std.specs.Prelude.{◌≡◌, true, false, List, ℕ, ◌<◌, length, get_or}
 use Rattle.theory.specs.Term.{var}
 use Rattle.theory.specs.Rewriting.{Rule}
 use Rattle.theory.specs.Preorder.{Token}
 use Rattle.theory.specs.Automaton.{Automaton}
 use Rattle.sets.specs.Sets.{mem}
-use Rattle.woven.specs.Woven.{woven_moves, Indexed}
+use Rattle.woven.specs.Woven.{woven_moves}
 use Rattle.values.specs.Standing.{Spells}
 use Rattle.alike.specs.Alike.{SameSides}
 use Rattle.alike.specs.Sides.{Written}
@@ -25,11 +24,9 @@ pub record Led (M : Automaton) (rule : Rule) (x mask : ℕ) : Type 0 where
 abbrev pub Lowest : List ℕ → (n mask : ℕ) → Type 0
 Lowest same n mask = (d : ℕ) → d < n → mem mask d ≡ false → (c : ℕ) × (c < d) × (mem (get_or same d 0) c ≡ true)
 
--- The words by symbol, the tokens of a rule, the left side from 0 and the right side from 24, and a variable.
-pub record RuleGiven (words heads arities tokens : List ℕ) (x : ℕ) : Type 0 where
-  pub indexed : Indexed words heads
+-- The tokens of a rule, the left side from 0 and the right side from 24, and a variable.
+pub record RuleGiven (arities tokens : List ℕ) (x : ℕ) : Type 0 where
   pub long : length tokens ≡ 48
-  pub ranks : (f : ℕ) → get_or arities f 0 ≤ most_arity
   pub left : Written arities tokens 0
   pub right : Written arities tokens 24
   pub variable : x < 4

@@ -5,7 +5,7 @@ use Rattle.theory.specs.Term.{Term, Terms}
 use Rattle.theory.specs.Preorder.{Token}
 use Rattle.sets.specs.Sets.{mem, all_mask}
 use Rattle.tables.specs.Held.{token_of}
-use Rattle.woven.specs.Woven.{woven_moves, Indexed}
+use Rattle.woven.specs.Woven.{woven_moves}
 use Rattle.values.specs.Standing.{Spells, SpellsRow}
 use Rattle.alike.specs.declared.Arguments.{Arguments}
 use Rattle.alike.specs.Alike.{AlikeAt, AlikeIn, AlikeRow}
@@ -27,15 +27,8 @@ pub record WrittenRow (arities tokens : List ℕ) (at n : ℕ) : Type 0 where
   pub rest : List Token
   pub spells : SpellsRow arities tokens at n row rest
 
--- What every walk over tokens asks.
-pub record Walk (words heads arities : List ℕ) (x : ℕ) : Type 0 where
-  pub indexed : Indexed words heads
-  pub ranks : (g : ℕ) → get_or arities g 0 ≤ most_arity
-  pub variable : x < 4
-
 -- What a token asks that is the first of the arguments.
-pub record TokenGiven (words heads : List ℕ) (x : ℕ) (here : Arguments) : Type 0 where
-  pub indexed : Indexed words heads
+pub record TokenGiven (x : ℕ) (here : Arguments) : Type 0 where
   pub variable : x < 4
   pub symbol : here.symbol < 64
   pub argument : here.first < 3
@@ -48,8 +41,8 @@ pub record TokenJoined (words heads : List ℕ) (x token : ℕ) (here : Argument
       → AlikeAt (woven_moves arities words (get_or heads 64 0)) here.wanted here.symbol here.first c d
 
 -- What a walk over the rest of a symbol's arguments asks.
-pub record RowGiven (words heads arities tokens : List ℕ) (x : ℕ) (here : Arguments) (at : ℕ) : Type 0 where
-  pub walk : Walk words heads arities x
+pub record RowGiven (arities tokens : List ℕ) (x : ℕ) (here : Arguments) (at : ℕ) : Type 0 where
+  pub variable : x < 4
   pub symbol : 0 < here.left → here.symbol < 64
   pub arguments : here.first + here.left ≤ most_arity
   pub row : WrittenRow arities tokens at here.left
@@ -64,8 +57,8 @@ pub record RowJoined (words heads arities tokens : List ℕ) (x : ℕ) (here : A
   pub forward : at ≤ next
 
 -- What a walk over a term asks.
-pub record SideGiven (words heads arities tokens : List ℕ) (x at : ℕ) : Type 0 where
-  pub walk : Walk words heads arities x
+pub record SideGiven (arities tokens : List ℕ) (x at : ℕ) : Type 0 where
+  pub variable : x < 4
   pub term : Written arities tokens at
 
 -- The masks are left with classes that are alike at all places of x in the term, of which all classes are wanted.

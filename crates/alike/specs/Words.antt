@@ -1,24 +1,23 @@
 -- Which classes stand in the same words at an argument, and how the masks are narrowed by them.
 use Rattle.std.specs.Prelude.{◌≡◌, true, ◌↔◌, List, ℕ, ◌-◌, ◌*◌, ◌^◌, ◌≤◌, ◌<◌, length, get_or}
 use Rattle.sets.specs.Sets.{mem}
-use Rattle.woven.specs.Woven.{part, woven_moves, Indexed}
+use Rattle.woven.specs.Woven.{part, woven_moves}
 use Rattle.alike.specs.Alike.{AlikeAt}
 
 -- A word without its argument p.
 unfoldable pub rest_of : (w p : ℕ) → ℕ
 rest_of w p = w - part w p * 2 ^ (8 * p)
 
--- Among the words from a place to an end is one with this rest that has c as argument p.
-pub record Stood (words : List ℕ) (from end p rest c : ℕ) : Type 0 where
+-- Among the first n words is one with this rest that has c as argument p.
+pub record Stood (words : List ℕ) (n p rest c : ℕ) : Type 0 where
   pub place : ℕ
-  pub low : from ≤ place
-  pub high : place < end
+  pub before : place < n
   pub same : rest_of (get_or words place 0) p ≡ rest
   pub class : part (get_or words place 0) p ≡ c
 
 -- The mask has just the classes that so stand.
-abbrev pub Standing : List ℕ → (from end p rest mask : ℕ) → Type 0
-Standing words from end p rest mask = (c : ℕ) → (mem mask c ≡ true) ↔ Stood words from end p rest c
+abbrev pub Standing : List ℕ → (n p rest mask : ℕ) → Type 0
+Standing words n p rest mask = (c : ℕ) → (mem mask c ≡ true) ↔ Stood words n p rest c
 
 -- What is left of a mask: classes that are in the set exactly when d is.
 abbrev pub Narrowed : (mask set d left : ℕ) → Type 0
@@ -34,9 +33,8 @@ pub record NarrowedTo (set : ℕ) (old : List ℕ) (n : ℕ) (new : List ℕ) : 
 abbrev pub Within : (old new : List ℕ) → Type 0
 Within old new = (k c : ℕ) → mem (get_or new k 0) c ≡ true → mem (get_or old k 0) c ≡ true
 
--- The words by symbol, a symbol and one of its arguments.
-pub record PlaceGiven (words heads : List ℕ) (f p : ℕ) : Type 0 where
-  pub indexed : Indexed words heads
+-- A symbol and one of its arguments.
+pub record PlaceGiven (f p : ℕ) : Type 0 where
   pub symbol : f < 64
   pub argument : p < 3
 

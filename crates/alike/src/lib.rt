@@ -3,17 +3,16 @@
 #![tactic(auto)]
 
 ghost use Rattle.std.specs.Prelude.{◌≡◌, List, ℕ, ◌≤◌, ◌<◌, length, get_or};
-ghost use Rattle.paper.specs.Limits.{most_transitions};
 ghost use Rattle.woven.specs.Woven.{part, woven_moves};
 ghost use Rattle.alike.specs.Alike.{Calls};
 ghost use Rattle.alike.specs.Words.{rest_of, Standing, Narrowed, NarrowedTo, PlaceGiven, PlaceNarrowed};
 ghost use Rattle.alike.specs.Sides.{rank, TokenGiven, TokenJoined, RowGiven, RowJoined, SideGiven, SideJoined};
 ghost use Rattle.alike.specs.Needed.{Lowest, RuleGiven, Enough};
 
-use sets::{ALL, WIDTH, below, has, index, minus, with};
-use tables::{SIDE, TRANSITIONS, VARIABLE, arity};
+use sets::{ALL, WIDTH, below, has, minus, with};
+use tables::{SIDE, VARIABLE, arity};
 use values::{BYTE, part_of};
-use woven::{HEADS, TARGET};
+use woven::{Automaton, TARGET};
 
 // The arguments of a symbol that are still to be walked: so many, from the argument `first` on; and the targets that are wanted of the symbol.
 #[derive(Clone, Copy)]
@@ -40,19 +39,16 @@ fn rest_of(w: u64, p: u64) -> u64
     w - (class_at(w, p) << (BYTE * p))
 }
 
-// The classes that are argument p of the words with this rest, from a place to an end.
-fn standing(words: &[u64; TRANSITIONS], from: usize, end: usize, p: u64, rest: u64) -> u64
-    requires { (from ≤ end) × (end ≤ most_transitions) × (p < 3) }
-    ensures { Standing words.now from end p rest result }
+// The classes that are argument p of the words with this rest.
+fn standing(words: &[u64], p: u64, rest: u64) -> u64
+    requires { p < 3 }
+    ensures { Standing words.now (length words.now) p rest result }
 {
     let mut set: u64 = 0;
-    let mut j = from;
-    while j < end {
-        let w = words[j];
-        if rest_of(w, p) == rest {
-            set = with(set, class_at(w, p));
+    for w in words {
+        if rest_of(*w, p) == rest {
+            set = with(set, class_at(*w, p));
         }
-        j += 1;
     }
     set
 }
@@ -74,60 +70,35 @@ fn narrow_all(same: &mut [u64; WIDTH], set: u64)
     requires { length same.old ≡ 64 }
     ensures { NarrowedTo set same.old 64 same.new }
 {
-    let mut d: usize = 0;
-    while d < WIDTH {
-        same[d] = narrow(same[d], set, d as u64);
-        d += 1;
+    for (d, mask) in same.iter_mut().enumerate() {
+        *mask = narrow(*mask, set, d as u64);
     }
 }
 
 // The masks narrowed, for each word of the symbol f with a wanted target, by the classes that may stand for its argument p.
-fn narrow_place<'a>(
-    words: &'a [u64; TRANSITIONS],
-    heads: &'a [u8; HEADS],
-    f: u8,
-    p: u64,
-    wanted: u64,
-    same: &mut [u64; WIDTH],
-)
-    requires { PlaceGiven words.now heads.now f p × (length same.old ≡ 64) }
-    ensures { PlaceNarrowed words.now heads.now f p wanted same.old same.new }
+fn narrow_place<'a>(delta: Automaton, f: u8, p: u64, wanted: u64, same: &mut [u64; WIDTH])
+    requires { PlaceGiven f p × (length same.old ≡ 64) }
+    ensures { PlaceNarrowed delta.entry.words.now delta.entry.heads.now f p wanted same.old same.new }
 {
-    let at = f as usize;
-    let end = index(heads[at + 1]);
-    let from = index(heads[at]);
-    let mut i = from;
-    while i < end {
-        let w = words[i];
-        let target = class_at(w, TARGET);
+    let run = delta.words_of(f);
+    for w in run {
+        let target = class_at(*w, TARGET);
         if has(wanted, target) {
-            narrow_all(same, standing(words, from, end, p, rest_of(w, p)));
+            narrow_all(same, standing(run, p, rest_of(*w, p)));
         }
-        i += 1;
     }
 }
 
 // The classes that are argument p of the words of the symbol f with a wanted target.
-fn called<'a>(
-    words: &'a [u64; TRANSITIONS],
-    heads: &'a [u8; HEADS],
-    f: u8,
-    p: u64,
-    wanted: u64,
-) -> u64
-    requires { PlaceGiven words.now heads.now f p }
-    ensures { (arities : List ℕ) → Calls (woven_moves arities words.now (get_or heads.now 64 0)) wanted f p result }
+fn called<'a>(delta: Automaton, f: u8, p: u64, wanted: u64) -> u64
+    requires { PlaceGiven f p }
+    ensures { (arities : List ℕ) → Calls (woven_moves arities delta.entry.words.now (get_or delta.entry.heads.now 64 0)) wanted f p result }
 {
-    let at = f as usize;
-    let end = index(heads[at + 1]);
-    let mut i = index(heads[at]);
     let mut set: u64 = 0;
-    while i < end {
-        let w = words[i];
-        if has(wanted, class_at(w, TARGET)) {
-            set = with(set, class_at(w, p));
+    for w in delta.words_of(f) {
+        if has(wanted, class_at(*w, TARGET)) {
+            set = with(set, class_at(*w, p));
         }
-        i += 1;
     }
     set
 }
@@ -137,87 +108,70 @@ fn rank_of(arities: &[u8], token: u8) -> usize
     ensures { result ≡ rank arities.now token }
 {
     if token < VARIABLE {
-        index(arity(arities, token))
+        arity(arities, token) as usize
     } else {
         0
     }
 }
 
 // The masks narrowed at the first of the arguments, if the token there is the variable x.
-fn join_token<'a>(
-    words: &'a [u64; TRANSITIONS],
-    heads: &'a [u8; HEADS],
-    x: u8,
-    token: u8,
-    here: Arguments,
-    same: &mut [u64; WIDTH],
-)
-    requires { TokenGiven words.now heads.now x here × (length same.old ≡ 64) }
-    ensures { TokenJoined words.now heads.now x token here same.old same.new }
+fn join_token<'a>(delta: Automaton, x: u8, token: u8, here: Arguments, same: &mut [u64; WIDTH])
+    requires { TokenGiven x here × (length same.old ≡ 64) }
+    ensures { TokenJoined delta.entry.words.now delta.entry.heads.now x token here same.old same.new }
 {
     if token == x + VARIABLE {
-        narrow_place(words, heads, here.symbol, here.first, here.wanted, same);
+        narrow_place(delta, here.symbol, here.first, here.wanted, same);
     }
 }
 
 // The masks narrowed for each of the arguments, and for the terms within; returns the place after them. Each call has fewer tokens left.
 fn join_row<'a>(
-    words: &'a [u64; TRANSITIONS],
-    heads: &'a [u8; HEADS],
-    arities: &'a [u8],
+    delta: Automaton<'a>,
     tokens: &'a [u8],
     x: u8,
     here: Arguments,
     at: usize,
     same: &mut [u64; WIDTH],
 ) -> usize
-    requires { RowGiven words.now heads.now arities.now tokens.now x here at × (length same.old ≡ 64) }
-    ensures { RowJoined words.now heads.now arities.now tokens.now x here at
+    requires { RowGiven delta.arities.now tokens.now x here at × (length same.old ≡ 64) }
+    ensures { RowJoined delta.entry.words.now delta.entry.heads.now delta.entry.arities.now tokens.now x here at
         same.old same.new result }
 {
     if here.left == 0 {
         return at;
     }
     let token = tokens[at];
-    join_token(words, heads, x, token, here, same);
+    join_token(delta, x, token, here, same);
     let inner = Arguments {
         symbol: token,
         first: 0,
-        left: rank_of(arities, token),
-        wanted: called(words, heads, here.symbol, here.first, here.wanted),
+        left: rank_of(delta.arities, token),
+        wanted: called(delta, here.symbol, here.first, here.wanted),
     };
-    let next = join_row(words, heads, arities, tokens, x, inner, at + 1, same);
+    let next = join_row(delta, tokens, x, inner, at + 1, same);
     let others = Arguments {
         symbol: here.symbol,
         first: here.first + 1,
         left: here.left - 1,
         wanted: here.wanted,
     };
-    join_row(words, heads, arities, tokens, x, others, next, same)
+    join_row(delta, tokens, x, others, next, same)
 }
 
 // The masks narrowed for each place of x in the term at a place.
-fn join_side<'a>(
-    words: &'a [u64; TRANSITIONS],
-    heads: &'a [u8; HEADS],
-    arities: &'a [u8],
-    tokens: &'a [u8],
-    x: u8,
-    at: usize,
-    same: &mut [u64; WIDTH],
-)
-    requires { SideGiven words.now heads.now arities.now tokens.now x at × (length same.old ≡ 64) }
-    ensures { SideJoined words.now heads.now arities.now tokens.now x at
+fn join_side<'a>(delta: Automaton<'a>, tokens: &'a [u8], x: u8, at: usize, same: &mut [u64; WIDTH])
+    requires { SideGiven delta.arities.now tokens.now x at × (length same.old ≡ 64) }
+    ensures { SideJoined delta.entry.words.now delta.entry.heads.now delta.entry.arities.now tokens.now x at
         same.old same.new }
 {
     let token = tokens[at];
     let inner = Arguments {
         symbol: token,
         first: 0,
-        left: rank_of(arities, token),
+        left: rank_of(delta.arities, token),
         wanted: ALL,
     };
-    join_row(words, heads, arities, tokens, x, inner, at + 1, same);
+    join_row(delta, tokens, x, inner, at + 1, same);
 }
 
 // The classes in whose masks no smaller class is.
@@ -225,35 +179,27 @@ fn leaders(same: &[u64; WIDTH]) -> u64
     ensures { Lowest same.now 64 result }
 {
     let mut mask: u64 = 0;
-    let mut d: usize = 0;
-    while d < WIDTH {
+    for (d, alike) in same.iter().enumerate() {
         let class = d as u64;
-        if same[d] & below(class) == 0 {
+        if *alike & below(class) == 0 {
             mask = with(mask, class);
         }
-        d += 1;
     }
     mask
 }
 
 // The classes of the variable x that have to be looked at: for every other one a smaller class gives both sides of the rule the same value.
 // All of them where the right side is a bare variable.
-pub fn needed<'a>(
-    words: &'a [u64; TRANSITIONS],
-    heads: &'a [u8; HEADS],
-    arities: &'a [u8],
-    tokens: &'a [u8],
-    x: u8,
-) -> u64
-    requires { RuleGiven words.now heads.now arities.now tokens.now x }
-    ensures { Enough words.now heads.now arities.now tokens.now x result }
+pub fn needed<'a>(delta: Automaton<'a>, tokens: &'a [u8], x: u8) -> u64
+    requires { RuleGiven delta.arities.now tokens.now x }
+    ensures { Enough delta.entry.words.now delta.entry.heads.now delta.entry.arities.now tokens.now x result }
 {
     let head = tokens[SIDE];
     if VARIABLE <= head {
         return ALL;
     }
     let mut same = [ALL; WIDTH];
-    join_side(words, heads, arities, tokens, x, 0, &mut same);
-    join_side(words, heads, arities, tokens, x, SIDE, &mut same);
+    join_side(delta, tokens, x, 0, &mut same);
+    join_side(delta, tokens, x, SIDE, &mut same);
     leaders(&same)
 }

@@ -3,7 +3,7 @@ use mathlib.Core.Path.{◌≡◌}
 use mathlib.Core.Logic.{inl, inr}
 use mathlib.Core.List.Memᴰ
 use mathlib.Core.List.{List, [], ◌∷◌, Memᴰ}
-use Prim.Native.Nat.{ℕ, zero, suc, ◌+◌, ◌^◌, ◌≤◌, ◌<◌}
+use Prim.Native.Nat.{ℕ, ◌+◌, ◌^◌, ◌≤◌, ◌<◌}
 use native.Mathlib.Omega.{arith}
 use lib.Dec.{eqb}
 use lib.ListN.{length}
@@ -11,8 +11,7 @@ use denote.Laws.{Is}
 use denote.Enum.Declared.{row}
 use denote.Enum.Laws.{val}
 use Rattle.paper.specs.Bytes.{bytes}
-use Rattle.paper.specs.Format.{line_at}
-use Rattle.paper.specs.Answer.{decimal, decimals, decimal_if, dash, line_with, eight}
+use Rattle.paper.specs.Answer.{decimal, decimals, dash, line_with, eight}
 use Rattle.paper.proofs.Smallest.{decided}
 use Rattle.paper.proofs.Numbers.{decimal_length}
 use Rattle.paper.proofs.Bounds.{eight_length, four_classes}
@@ -25,17 +24,12 @@ use Rattle.answer.specs.declared.Lines.{Lines}
 use Rattle.answer.specs.contracts.Shown.{the_type}
 use Rattle.answer.proofs.Shown.TheLaws.{the_laws}
 
--- A number of 8 bits, a number of 32 bits, and the line of a refusal.
+-- A number of 8 bits, and one of 32 bits.
 pub three : (n : ℕ) → n < 256 → length (decimal n) ≤ 3
 three n h = decimal_length 2 n (omega arith)
 
 pub ten : (n : ℕ) → n < 4_294_967_296 → length (decimal n) ≤ 10
 ten n h = decimal_length 9 n (omega arith)
-
-pub ten_or_dash : (n : ℕ) → n < 4_294_967_296 → length (decimal_if (line_at n)) ≤ 10
-unfolding line_at decimal_if dash bytes
-ten_or_dash zero h = omega arith
-ten_or_dash (suc n) h = ten (suc n) h
 
 module _ (x : ℕ) (xs : List ℕ) where
   then_length : (n : ℕ) → length xs ≤ n → length (class_then x xs) ≤ n + 1

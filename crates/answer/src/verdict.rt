@@ -1,47 +1,39 @@
 // The answer to a verdict.
 ghost use Rattle.std.specs.Prelude.{◌≤◌, length};
 ghost use Rattle.paper.specs.Answer.{answer};
-ghost use Rattle.verdicts.specs.Said.{said};
+ghost use Rattle.verdicts.specs.Said.{said_of_file};
 ghost use Rattle.answer.specs.Shown.{Wrote};
 
-use crate::Shown;
-use crate::seven::{put_final_pair, put_found, put_only_examined, put_refused};
-use verdicts::Verdict;
+use crate::eight::put_eight;
+use crate::{Lines, Shown};
+use verdicts::{Refusal, Verdict};
 
-// Writes the answer to a verdict from the buffer's start, and gives its length.
-pub fn write(v: Verdict, out: &mut [u8]) -> usize
+// Writes the answer to a file's verdict from the buffer's start, and gives its length.
+pub fn write(v: Result<Verdict, Refusal>, out: &mut [u8]) -> usize
     requires { 128 ≤ length out.old }
-    ensures { Wrote (answer (said v)) out.old result out.new }
+    ensures { Wrote (answer (said_of_file v)) out.old result out.new }
 {
     match v {
-        Verdict::Unsuitable { class, bad } => put_final_pair(
+        Ok(Verdict::Unsuitable(pair)) => put_eight(
             out,
             b"verdict=unsuitable\n",
-            class,
-            bad,
-            Shown::Number(0),
+            Lines::final_pair(pair, Shown::Number(0)),
         ),
-        Verdict::Critical { pair, examined } => put_found(
+        Ok(Verdict::Critical { pair, examined }) => put_eight(
             out,
             b"verdict=critical\n",
-            pair,
-            examined,
+            Lines::found(pair, examined),
         ),
-        Verdict::Accepted { examined } => put_only_examined(
+        Ok(Verdict::Accepted { examined }) => put_eight(
             out,
             b"verdict=accepted\n",
-            Shown::Number(examined),
+            Lines::only_examined(Shown::Number(examined)),
         ),
-        Verdict::Stopped { examined } => put_only_examined(
+        Ok(Verdict::Stopped { examined }) => put_eight(
             out,
             b"verdict=stopped\n",
-            Shown::Number(examined),
+            Lines::only_examined(Shown::Number(examined)),
         ),
-        Verdict::Malformed { number, line } => put_refused(
-            out,
-            b"verdict=malformed\n",
-            number,
-            line,
-        ),
+        Err(r) => put_eight(out, b"verdict=malformed\n", Lines::refused(r)),
     }
 }

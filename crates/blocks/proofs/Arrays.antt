@@ -1,60 +1,74 @@
 -- Arrays that are filled from the front.
-use mathlib.Core.Path.{◌≡◌, refl, sym, ap, ◌∙◌}
+use mathlib.Core.Path.{◌≡◌, refl, ap, ◌∙◌}
 use mathlib.Core.List.Memᴰ
-use mathlib.Core.List.{List, [], ◌∷◌, ◌++◌, map, append_assoc, append-nil, Memᴰ}
+use mathlib.Core.List.{List, [], ◌∷◌, ◌++◌, map, append-nil, Memᴰ}
 use Prim.Native.Nat.{ℕ, zero, suc, ◌+◌, ◌-◌, ◌≤◌, ◌<◌}
 use native.Mathlib.Omega.{arith}
 use native.Mathlib.Numerals.{add-one}
-use lib.ListN.{length, drop, take, get_or, set, length-append}
-use lib.Seq.{drop-cons, take-suc, length-take-le, get_or-take}
+use lib.ListN.{length, drop, take, get_or, set, drop_of_length-le}
+use borrow.Rule.Slice.PartMut.{put_mid}
+use lib.Seq.{drop-cons, length-take-le, get_or-take, take_at, drop_at}
 use Rattle.theory.specs.Lists.{count_from}
 use Rattle.fields.specs.Padded.{padded}
+use Rattle.blocks.specs.Packed.{filled}
 
-snoc : (n : ℕ) (xs : List ℕ) (v : ℕ) → length xs < n → set (padded n xs) (length xs) v ≡ padded n (xs ++ (v ∷ []))
+-- Numbers are filled up with zeros.
+pub padded_filled : (n : ℕ) (xs : List ℕ) → padded n xs ≡ filled 0 n xs
+unfolding padded filled
+padded_filled zero xs = refl
+padded_filled (suc n) [] = ap (λ (l : List ℕ). 0 ∷ l) (padded_filled n [])
+padded_filled (suc n) (x ∷ xs) = ap (λ (l : List ℕ). x ∷ l) (padded_filled n xs)
+
+module _ {X : Type 0} (z : X) where
+  pub filled_length : (n : ℕ) (xs : List X) → length (filled z n xs) ≡ n
+  unfolding filled
+  filled_length zero xs = refl
+  filled_length (suc n) [] = ap suc (filled_length n [])
+  filled_length (suc n) (x ∷ xs) = ap suc (filled_length n xs)
+
+  -- one more
+  snoc : (n : ℕ) (xs : List X) (v : X) → length xs < n → set (filled z n xs) (length xs) v ≡ filled z n (xs ++ (v ∷ []))
+  unfolding filled
+  snoc zero xs v h = absurd (omega arith)
+  snoc (suc n) [] v h = refl
+  snoc (suc n) (x ∷ xs) v h = ap (λ (l : List X). x ∷ l) (snoc n xs v (omega arith))
+
+  pub filled_step : (n : ℕ) (xs : List X) (at : ℕ) (v : X) → length xs ≡ at → at < n → set (filled z n xs) at v ≡ filled z n (xs ++ (v ∷ []))
+  filled_step n xs at v e h = rw (← e) (snoc n xs v (omega arith))
+
+  -- more of them, laid over what stands there
+  laid : (n : ℕ) (vs : List X) → length vs ≤ n → vs ++ drop (length vs) (filled z n []) ≡ filled z n vs
+  unfolding filled
+  laid n [] h = refl
+  laid zero (v ∷ vs) h = absurd (omega arith)
+  laid (suc n) (v ∷ vs) h = ap (λ (l : List X). v ∷ l) (laid n vs (omega arith))
+
+  laid_behind : (n : ℕ) (xs vs : List X) → length xs + length vs ≤ n → put_mid (length xs) (length vs) (filled z n xs) vs ≡ filled z n (xs ++ vs)
+  unfolding filled
+  laid_behind n [] vs h = laid n vs (omega arith)
+  laid_behind zero (x ∷ xs) vs h = absurd (omega arith)
+  laid_behind (suc n) (x ∷ xs) vs h = ap (λ (l : List X). x ∷ l) (laid_behind n xs vs (omega arith))
+
+  pub filled_more : (n : ℕ) (xs vs : List X) (at k : ℕ) → length xs ≡ at → length vs ≡ k → at + k ≤ n → put_mid at k (filled z n xs) vs ≡ filled z n (xs ++ vs)
+  filled_more n xs vs at k e f h = rw (← e, ← f) (laid_behind n xs vs (omega arith))
+
+-- the front of what is filled up
+pub padded_front : (m n : ℕ) (xs : List ℕ) → m ≤ n → take m (padded n xs) ≡ padded m xs
 unfolding padded
-snoc zero xs v h = absurd (omega arith)
-snoc (suc n) [] v h = refl
-snoc (suc n) (x ∷ xs) v h = ap (λ (l : List ℕ). x ∷ l) (snoc n xs v (omega arith))
+padded_front zero n xs h = refl
+padded_front (suc m) zero xs h = absurd (omega arith)
+padded_front (suc m) (suc n) [] h = ap (λ (l : List ℕ). 0 ∷ l) (padded_front m n [] (omega arith))
+padded_front (suc m) (suc n) (x ∷ xs) h = ap (λ (l : List ℕ). x ∷ l) (padded_front m n xs (omega arith))
 
--- one more
-pub padded_step : (n : ℕ) (xs : List ℕ) (at v : ℕ) → length xs ≡ at → at < n → set (padded n xs) at v ≡ padded n (xs ++ (v ∷ []))
-padded_step n xs at v e h = rw (← e) (snoc n xs v (omega arith))
-
--- the numbers of vs, one after another from k places behind `at` on
-unfoldable pub written : (out : List ℕ) (at k : ℕ) (vs : List ℕ) → List ℕ
-written out at k [] = out
-written out at k (v ∷ vs) = written (set out (at + k) v) at (suc k) vs
-
--- more of them
-pub padded_more : (n : ℕ) (xs : List ℕ) (at k : ℕ) (vs : List ℕ) → length xs ≡ at + k → at + k + length vs ≤ n → written (padded n xs) at k vs ≡ padded n (xs ++ vs)
-unfolding written
-padded_more n xs at k [] e h = ap (padded n) (sym (append-nil xs))
-padded_more n xs at k (v ∷ vs) e h =
-    rw (padded_step n xs (at + k) v e (omega arith), ← append_assoc xs (v ∷ []) vs) (padded_more n (xs ++ (v ∷ [])) at (suc k) vs (length-append xs (v ∷ []) ∙ omega arith) (omega arith))
-
--- the zeros behind a part that is padded itself
-pub padded_twice : (n m : ℕ) (xs ys : List ℕ) → length xs + m ≤ n → length ys ≤ m → padded n (xs ++ padded m ys) ≡ padded n (xs ++ ys)
-unfolding padded
-padded_twice n zero [] [] h l = refl
-padded_twice n zero [] (y ∷ ys) h l = absurd (omega arith)
-padded_twice zero (suc m) [] ys h l = refl
-padded_twice (suc n) (suc m) [] [] h l = ap (λ (r : List ℕ). 0 ∷ r) (padded_twice n m [] [] (omega arith) (omega arith))
-padded_twice (suc n) (suc m) [] (y ∷ ys) h l = ap (λ (r : List ℕ). y ∷ r) (padded_twice n m [] ys (omega arith) (omega arith))
-padded_twice zero m (x ∷ xs) ys h l = refl
-padded_twice (suc n) m (x ∷ xs) ys h l = ap (λ (r : List ℕ). x ∷ r) (padded_twice n m xs ys (omega arith) l)
+-- a second half that is written over
+pub second_half : {X : Type 0} (k : ℕ) (xs zs ys : List X) → length xs ≡ k → length zs ≡ k → put_mid k k (xs ++ zs) ys ≡ xs ++ ys
+second_half k xs zs ys e f = rw (take_at xs zs k e, drop_at xs zs k e, drop_of_length-le zs {i = k} (omega arith), append-nil ys)
 
 -- the first n of a list, from the i-th on
 pub taken_cons : (items : List ℕ) (n i : ℕ) → n ≤ length items → i < n → drop i (take n items) ≡ get_or items i 0 ∷ drop (i + 1) (take n items)
 taken_cons items n i fits h =
     let l = length-take-le n items fits in
     rw (add-one i, drop-cons (take n items) i 0 (omega arith), get_or-take n items i 0 h)
-
--- one more element of a list that goes behind others
-pub side_more : (n : ℕ) (before out side : List ℕ) (at i : ℕ) → length before ≡ at → at + i < n → i < length side → out ≡ padded n (before ++ take i side)
-    → set out (at + i) (get_or side i 0) ≡ padded n (before ++ take (i + 1) side)
-side_more n before out side at i e h l p =
-    let here : length (before ++ take i side) ≡ at + i = length-append before (take i side) ∙ omega (arith, length-take-le i side (omega arith)) in
-    rw (p, padded_step n (before ++ take i side) (at + i) (get_or side i 0) here h, append_assoc before (take i side) (get_or side i 0 ∷ []), add-one i, take-suc side i 0 l)
 
 pub padded_get : (n : ℕ) (xs : List ℕ) (i : ℕ) → i < n → get_or (padded n xs) i 0 ≡ get_or xs i 0
 unfolding padded
@@ -105,3 +119,10 @@ list_low m (q ∷ xs) h (suc i) = list_low m xs (λ x p. h x (Memᴰ.tail p)) i
 
 pub mem_low : {X : Type 0} (f : X → ℕ) (m : ℕ) (xs : List X) → ((x : X) → Memᴰ x xs → f x ≤ m) → (i : ℕ) → get_or (map f xs) i 0 ≤ m
 mem_low f m xs h = list_low m (map f xs) (λ q p. let (x, k, e) = Memᴰ.of_map f xs p in rw (← e) (h x k))
+
+-- a part of a list is no higher
+pub taken_low : (m : ℕ) (xs : List ℕ) (n : ℕ) → ((i : ℕ) → get_or xs i 0 ≤ m) → (i : ℕ) → get_or (take n xs) i 0 ≤ m
+taken_low m xs zero h i = omega arith
+taken_low m [] (suc n) h i = omega arith
+taken_low m (x ∷ xs) (suc n) h zero = h 0
+taken_low m (x ∷ xs) (suc n) h (suc i) = taken_low m xs n (λ k. h (suc k)) i

@@ -1,5 +1,5 @@
--- How the tables hold what a file says: the arrays that one certificate fills, 0 wherever nothing stands.
-use Rattle.std.specs.Prelude.{List, [], ◌∷◌, ◌++◌, map, ℕ, ◌*◌, ◌^◌, length}
+-- How the tables hold what a file says: the arrays that one certificate fills, zeros wherever nothing stands.
+use Rattle.std.specs.Prelude.{List, [], ◌∷◌, ◌++◌, map, ℕ, zero, suc, ◌*◌, ◌^◌, length}
 use Rattle.std.specs.Int.Bits.{bit_or}
 use Rattle.theory.specs.Preorder.{preorder}
 use Rattle.theory.specs.Rewriting.{Rule, variable_count}
@@ -8,6 +8,7 @@ use Rattle.paper.specs.Limits.{most_symbols, most_transitions, most_rules, most_
 use Rattle.fields.specs.Padded.{padded}
 use Rattle.tables.specs.Held.{side_of}
 use Rattle.tables.specs.declared.Table.{Table}
+use Rattle.tables.specs.declared.Rule.{Rule as Kept}
 use Rattle.tables.specs.declared.Rules.{Rules}
 use Rattle.tables.specs.declared.Tables.{Tables}
 use Rattle.tables.specs.declared.Merging.{Merging}
@@ -35,28 +36,29 @@ packed_rows ts = padded (5 * most_transitions) (flat row_of ts)
 unfoldable pub table_of : Automaton → Table
 table_of A = record { states = A.states; finals = mask_from 0 A.final; count = length A.transitions; rows = packed_rows A.transitions }
 
--- The 48 bytes of a rule.
-unfoldable pub rule_of : Rule → List ℕ
-rule_of r = padded most_tokens (side_of r.left) ++ padded most_tokens (side_of r.right)
+-- A rule: 48 bytes of tokens, how many of them each side has, and how many variables the rule has.
+unfoldable pub rule_of : Rule → Kept
+rule_of r =
+    record {
+      tokens = padded most_tokens (side_of r.left) ++ padded most_tokens (side_of r.right);
+      left = length (preorder r.left);
+      right = length (preorder r.right);
+      variables = variable_count r;
+    }
 
--- How many tokens the left side has.
-unfoldable pub left_count : Rule → ℕ
-left_count r = length (preorder r.left)
+-- Zeros, where there is no rule.
+unfoldable pub zero_rule : Kept
+zero_rule = record { tokens = padded (2 * most_tokens) []; left = 0; right = 0; variables = 0 }
 
--- How many tokens the right side has.
-unfoldable pub right_count : Rule → ℕ
-right_count r = length (preorder r.right)
+-- xs in n places, and z in those behind; what does not fit is left out.
+unfoldable pub filled : {X : Type 0} → (z : X) → ℕ → List X → List X
+filled z zero xs = []
+filled z (suc n) [] = z ∷ filled z n []
+filled z (suc n) (x ∷ xs) = x ∷ filled z n xs
 
 -- The rules.
 unfoldable pub packed_rules : List Rule → Rules
-packed_rules rs =
-    record {
-      count = length rs;
-      tokens = padded (48 * most_rules) (flat rule_of rs);
-      lefts = padded most_rules (map left_count rs);
-      rights = padded most_rules (map right_count rs);
-      variables = padded most_rules (map variable_count rs);
-    }
+packed_rules rs = record { count = length rs; rules = filled zero_rule most_rules (map rule_of rs) }
 
 -- All tables.
 unfoldable pub tables_of : Draft → Tables
@@ -73,19 +75,3 @@ tables_of d =
 -- The merging.
 unfoldable pub merging_of : List ℕ → Merging
 merging_of merge = record { classes = classes merge; merge = padded 64 merge }
-
--- No automaton.
-unfoldable pub no_table : Table
-no_table = record { states = 0; finals = 0; count = 0; rows = padded (5 * most_transitions) [] }
-
--- No rules.
-unfoldable pub no_rules : Rules
-no_rules = record { count = 0; tokens = padded (48 * most_rules) []; lefts = padded most_rules []; rights = padded most_rules []; variables = padded most_rules [] }
-
--- No tables.
-unfoldable pub no_tables : Tables
-no_tables = record { budget = 0; symbols = 0; arities = padded most_symbols []; initial = no_table; bad = no_table; rules = no_rules }
-
--- No merging.
-unfoldable pub no_merging : Merging
-no_merging = record { classes = 0; merge = padded 64 [] }

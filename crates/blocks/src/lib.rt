@@ -2,5 +2,4 @@
 #![tactic(auto)]
 
 pub mod automata;
-pub mod places;
 pub mod rules;

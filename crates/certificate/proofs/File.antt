@@ -1,33 +1,37 @@
--- The whole file: paper's do-block is the draft and what closes it, and what is answered for each way of reading it.
+-- The whole file: paper's do-block is the draft and the lines that close it, and what is answered for each way of reading it.
 use mathlib.Core.Path.{◌≡◌, refl, sym, ap, ◌∙◌}
 use mathlib.Core.List.{List, [], ◌∷◌}
 use mathlib.Core.Logic.{inl, inr}
 use Prim.Native.Nat.{ℕ, ◌≤◌, ◌<◌}
 use Prim.Native.String.{String}
 use native.Mathlib.Omega.{arith}
-use borrow.Author.Tests.{le-leb, lt-leb, leb-true}
+use borrow.Author.Tests.{le-leb, lt-leb, leb-true, leb-false}
 use lib.Dec.{leb}
 use lib.ListN.{length, drop, take}
+use Rattle.std.specs.Prelude.{Some, Result, Ok, Err}
 use Rattle.theory.specs.Automaton.{Automaton, classes}
 use Rattle.paper.specs.Limits.{most_bytes, most_states}
-use Rattle.paper.specs.Certificate.{Certificate, Kind, row, Budget, Arities, States, Final, Trans, BadStates, BadFinal, BadTrans, Rules}
+use Rattle.paper.specs.Certificate.{Certificate as PaperCertificate, Kind, row, Budget, Arities, States, Final, Trans, BadStates, BadFinal, BadTrans, Rules}
 use Rattle.paper.specs.Tables.{single_number, arity_list, final_list, transition}
-use Rattle.paper.specs.Format.{line_number, Reading, refused, gave, Reader, go_on, ◌>>=◌, ◌>>◌, give, line_of, fixed, times, rule, end, certificate, whole_file, read_file}
-use Rattle.paper.proofs.Admitted.{one_in, line_read}
+use Rattle.paper.specs.Format.{Reading, refused, gave, Reader, go_on, ◌>>=◌, ◌>>◌, give, line_of, fixed, times, rule, end, certificate, whole_file, read_file}
+use Rattle.paper.proofs.Admitted.{Reads, any_read, one_in, line_read}
 use Rattle.paper.proofs.Smallest.{decided}
 use Rattle.paper.proofs.Spelling.{steps}
-use Rattle.fields.specs.declared.cursor.Cursor.{Cursor}
-use Rattle.fields.specs.Padded.{padded}
 use Rattle.tables.specs.declared.Tables.{Tables}
 use Rattle.tables.specs.declared.Merging.{Merging}
-use Rattle.blocks.specs.declared.places.Reached.{Reached}
-use Rattle.blocks.specs.declared.places.Reached.TheVariants.{At, Refused}
-use Rattle.blocks.specs.Packed.{tables_of, merging_of, table_of, no_tables}
-use Rattle.blocks.specs.Handed.{Went, Handed}
-use Rattle.blocks.specs.Draft.{Draft, from_rows, from_trans, from_final, automaton, from_rules, from_rule_count, from_bad, from_initial, from_arities, draft, merge_line, merged, closing}
-use Rattle.blocks.proofs.Chain.{then_next, then_stop, handed_at}
-use Rattle.certificate.specs.declared.reading.Read.{Read}
-use Rattle.certificate.specs.Read.{draft_of, refused_read, stop_read, read_of, tables_read, merge_place, Behind, ReadyAt}
+use Rattle.tables.specs.declared.certificate.Certificate.{Certificate}
+use Rattle.verdicts.specs.declared.refusals.Reason.TheVariants.{NoLine}
+use Rattle.verdicts.specs.declared.refusals.Refusal.{Refusal}
+use Rattle.verdicts.specs.Refused.{number, reason_of, said_line, line_of as refusal_line, refusal_of}
+use Rattle.verdicts.proofs.Told.{refusal_back}
+use Rattle.fields.specs.declared.cursor.Cursor.{Cursor}
+use Rattle.fields.specs.Padded.{padded}
+use Rattle.view.specs.declared.View.{View}
+use Rattle.blocks.specs.Packed.{tables_of, merging_of, table_of}
+use Rattle.blocks.specs.Handed.{Went, Stopped}
+use Rattle.blocks.specs.Draft.{Draft, automaton, draft, merge_line, merged, closing}
+use Rattle.blocks.proofs.Chain.{then_next, first_stopped, next_stopped}
+use Rattle.certificate.specs.Read.{draft_of, read_of, too_long, last_lines, Ended, HandedView}
 
 bind_cong : {X Y : Type 0} (m : Reader X) (f g : X → Reader Y) → ((x : X) → f x ≡ g x) → ◌≡◌ {A = Reader Y} (m >>= f) (m >>= g)
 bind_cong m f g h = λ i. m >>= (λ x. h x i)
@@ -50,147 +54,133 @@ flat : {Y : Type 0} (K1 K2 K3 : Kind) (key : String) (ar : List ℕ) (next : Aut
     → ◌≡◌ {A = Reader Y} (automaton K1 K2 K3 key ar >>= next)
     (fixed K1 single_number >>= (λ n. fixed K2 (λ kind. final_list kind n) >>= (λ final. fixed K3 single_number >>= (λ count. times count (line_of key (transition ar n)) >>=
     (λ ts. next (record { states = n; transitions = ts; final = final }))))))
-unfolding automaton from_final from_trans from_rows give go_on ◌>>=◌
+unfolding automaton give go_on ◌>>=◌
 flat K1 K2 K3 key ar next =
-    flat_next (fixed K1 single_number) (from_final K2 K3 key ar) next _ (λ n.
-    flat_next (fixed K2 (λ kind. final_list kind n)) (from_trans K3 key ar n) next _ (λ final.
-    flat_next (fixed K3 single_number) (from_rows key ar n final) next _ (λ count. assoc (times count (line_of key (transition ar n))) _ next)))
+    flat_next (fixed K1 single_number) _ next _ (λ n.
+    flat_next (fixed K2 (λ kind. final_list kind n)) _ next _ (λ final.
+    flat_next (fixed K3 single_number) _ next _ (λ count. assoc (times count (line_of key (transition ar n))) _ next)))
 
-flat_rules : (b : ℕ) (ar : List ℕ) (A B : Automaton)
-    → ◌≡◌ {A = Reader Certificate} (from_rule_count b ar A B >>= closing)
-    (fixed Rules single_number >>= (λ n. times n (rule ar) >>= (λ rules. closing (record { budget = b; arities = ar; A = A; B = B; rules = rules }))))
-unfolding from_rule_count from_rules give go_on ◌>>=◌
-flat_rules b ar A B = flat_next (fixed Rules single_number) (from_rules b ar A B) closing _ (λ n. assoc (times n (rule ar)) _ closing)
-
-pub whole_file_lem : ◌≡◌ {A = Reader Certificate} (draft >>= closing) certificate
-unfolding draft from_arities from_initial from_bad certificate closing merge_line merged
+pub whole_file_lem : ◌≡◌ {A = Reader PaperCertificate} (draft >>= closing) certificate
+unfolding draft certificate closing merge_line merged give go_on ◌>>=◌
 whole_file_lem =
-    flat_next (fixed Budget single_number) from_arities closing _ (λ b.
-    flat_next (fixed Arities (λ kind. arity_list)) (from_initial b) closing _ (λ ar.
-    flat_next (automaton States Final Trans "t" ar) (from_bad b ar) closing _ (λ A.
-    flat_next (automaton BadStates BadFinal BadTrans "u" ar) (from_rule_count b ar A) closing _ (λ B. flat_rules b ar A B) ∙ flat BadStates BadFinal BadTrans "u" ar _)
+    flat_next (fixed Budget single_number) _ closing _ (λ b.
+    flat_next (fixed Arities (λ kind. arity_list)) _ closing _ (λ ar.
+    flat_next (automaton States Final Trans "t" ar) _ closing _ (λ A.
+    flat_next (automaton BadStates BadFinal BadTrans "u" ar) _ closing _ (λ B.
+    flat_next (fixed Rules single_number) _ closing _ (λ n. assoc (times n (rule ar)) _ closing))
+    ∙ flat BadStates BadFinal BadTrans "u" ar _)
     ∙ flat States Final Trans "t" ar _))
 
+-- The tables' lines, and those that close the file.
+abbrev in_parts : Reader PaperCertificate
+in_parts = draft >>= (λ d. last_lines d.A.states >>= (λ merge. give (merged d merge)))
+
+parts_are : ◌≡◌ {A = Reader PaperCertificate} in_parts certificate
+parts_are = bind_cong draft _ closing closes ∙ whole_file_lem
+  where
+    closes : (d : Draft) → ◌≡◌ {A = Reader PaperCertificate} (last_lines d.A.states >>= (λ merge. give (merged d merge))) (closing d)
+    closes d =
+        unfold last_lines closing give go_on ◌>>=◌ ◌>>◌ in
+        (flat_next (merge_line d.A.states) _ (λ merge. give (merged d merge)) _ (λ merge. assoc end (λ u. give merge) (λ merge. give (merged d merge))))
+
+-- What a reader gives is what the next one is given.
+reads_next : {X Y : Type 0} {P : X → Type 0} {Q : Y → Type 0} (r : Reader X) (k : X → Reader Y) → Reads P r → ((x : X) → P x → Reads Q (k x)) → Reads Q (r >>= k)
+unfolding ◌>>=◌
+reads_next r k h g line bs y l cs e = let (x, m, ds, p, q) = steps (r line bs) k e in g x (h line bs x m ds p) m ds y l cs q
+
+reads_give : {Y : Type 0} (Q : Y → Type 0) (y : Y) → Q y → Reads Q (give y)
+unfolding give
+reads_give Q y h line bs z l cs e = let same : y ≡ z = cc in rw (← same) h
+
 -- A has 32 states at most.
-gave_same : {X : Type 0} (x y : X) (l m : ℕ) (bs cs : List ℕ) → gave x l bs ≡ gave y m cs → x ≡ y
-gave_same x y l m bs cs e = cc
+automaton_states : (K1 K2 K3 : Kind) (key : String) (ar : List ℕ) → Reads (λ A. A.states ≤ (row K1).greatest) (automaton K1 K2 K3 key ar)
+unfolding automaton fixed
+automaton_states K1 K2 K3 key ar =
+    reads_next _ _ (line_read (single_number K1) (one_in K1) (row K1).key) (λ n p.
+    reads_next _ _ (any_read _) (λ final u. reads_next _ _ (any_read _) (λ count u. reads_next _ _ (any_read _) (λ ts u. reads_give _ _ p.1))))
 
-automaton_states : (K1 K2 K3 : Kind) (key : String) (ar : List ℕ) (line : ℕ) (bs : List ℕ) (A : Automaton) (l : ℕ) (cs : List ℕ) → automaton K1 K2 K3 key ar line bs ≡ gave A l cs
-    → A.states ≤ (row K1).greatest
-unfolding automaton from_final from_trans from_rows give fixed ◌>>=◌
-automaton_states K1 K2 K3 key ar line bs A l cs e =
-    let (n, k1, d1, p1, q1) = steps (fixed K1 single_number line bs) _ e in
-    let (f, k2, d2, p2, q2) = steps (fixed K2 (λ kind. final_list kind n) k1 d1) _ q1 in
-    let (c, k3, d3, p3, q3) = steps (fixed K3 single_number k2 d2) _ q2 in
-    let (ts, k4, d4, p4, q4) = steps (times c (line_of key (transition ar n)) k3 d3) _ q3 in
-    let same = gave_same _ A k4 l d4 cs q4 in
-    rw (← same) (line_read (single_number K1) (one_in K1) (row K1).key line bs n k1 d1 p1).1
-
-draft_states : (line : ℕ) (bs : List ℕ) (d : Draft) (l : ℕ) (cs : List ℕ) → draft line bs ≡ gave d l cs → d.A.states ≤ most_states
-unfolding draft from_arities from_initial from_bad from_rule_count from_rules give ◌>>=◌
-draft_states line bs d l cs e =
-    let (b, k1, d1, p1, q1) = steps (fixed Budget single_number line bs) _ e in
-    let (ar, k2, d2, p2, q2) = steps (fixed Arities (λ kind. arity_list) k1 d1) _ q1 in
-    let (A, k3, d3, p3, q3) = steps (automaton States Final Trans "t" ar k2 d2) _ q2 in
-    let (B, k4, d4, p4, q4) = steps (automaton BadStates BadFinal BadTrans "u" ar k3 d3) _ q3 in
-    let (n, k5, d5, p5, q5) = steps (fixed Rules single_number k4 d4) _ q4 in
-    let (rs, k6, d6, p6, q6) = steps (times n (rule ar) k5 d5) _ q5 in
-    let same = gave_same _ d k6 l d6 cs q6 in
-    let few : A.states ≤ most_states = unfold row in (automaton_states States Final Trans "t" ar k2 d2 A k3 d3 p3) in
-    rw (← same) few
+draft_states : Reads (λ d. d.A.states ≤ most_states) draft
+unfolding draft row
+draft_states =
+    reads_next _ _ (any_read _) (λ b u. reads_next _ _ (any_read _) (λ ar u. reads_next _ _ (automaton_states States Final Trans "t" ar) (λ A few.
+    reads_next _ _ (any_read _) (λ B u. reads_next _ _ (any_read _) (λ n u. reads_next _ _ (any_read _) (λ rs u. reads_give _ _ few))))))
 
 -- A merging, packed.
 pub merge_packs : (items : List ℕ) (n k : ℕ) → items ≡ padded 64 (take n items) → k ≡ classes (take n items) → ◌≡◌ {A = Merging} (record { classes = k; merge = items }) (merging_of (take n items))
 unfolding merging_of
 merge_packs items n k h g = λ i. record { classes = g i; merge = h i }
 
--- The refusal of a part.
-pub stop_read_lem : (a : Reached) (r : Read) (k l : ℕ) → r ≡ stop_read a → a ≡ Refused k l → r ≡ refused_read k l
-unfolding stop_read
-stop_read_lem a r k l e g = e ∙ ap stop_read g
+-- The line `merge` was read: bytes follow it, or none.
+module _ (states line : ℕ) (bs : List ℕ) {merge : List ℕ} {l : ℕ} {rest : List ℕ} (e : merge_line states line bs ≡ gave merge l rest) where
+  pub bytes_follow : {r : Refusal} → 0 < length rest → r.reason ≡ NoLine → r.line ≡ Some l → Stopped (last_lines states line bs) r
+  unfolding last_lines number end ◌>>◌ go_on
+  bytes_follow {r} h p q = record { line = l; names = q; is = then_next (merge_line states) _ e ∙ rw p (more rest h) }
+    where
+      more : (cs : List ℕ) → 0 < length cs → (end >> give merge) l cs ≡ refused 3 l
+      more [] k = absurd (omega arith)
+      more (c ∷ cs) k = refl
 
+  pub nothing_follows : {m : Merging} → length rest ≤ 0 → m ≡ merging_of merge → Ended (last_lines states line bs) m
+  unfolding last_lines end ◌>>◌ go_on give
+  nothing_follows h p = record { what = merge; line = l; is = then_next (merge_line states) _ e ∙ none rest h; packs = p }
+    where
+      none : (cs : List ℕ) → length cs ≤ 0 → (end >> give merge) l cs ≡ gave merge l []
+      none [] k = refl
+      none (c ∷ cs) k = absurd (omega arith)
+
+-- What a view answers of its tables.
+abbrev pub Opening : Type 0
+Opening = Result (Tables × View) Refusal
+
+-- What is answered for a file.
 module _ (file : List ℕ) where
-  -- the tables' reading is the draft where the file is not too long
-  pub sized_long : (at line : ℕ) → most_bytes < length file → tables_read file at line ≡ refused 2 0
-  unfolding tables_read
-  sized_long at line h = rw (lt-leb (length file) most_bytes h, tables_read)
+  read_long : most_bytes < length file → Err too_long ≡ read_of (read_file file)
+  unfolding read_file read_of refusal_of reason_of refusal_line
+  read_long h = rw (lt-leb (length file) most_bytes h, read_file) refl
 
-  pub sized_fits : (at line : ℕ) → length file ≤ most_bytes → tables_read file at line ≡ draft line (drop at file)
-  unfolding tables_read
-  sized_fits at line h = rw (le-leb (length file) most_bytes h, tables_read)
-
-  -- what is answered for a file that is not too long
-  read_as : length file ≤ most_bytes → (r : Reading Certificate) → (draft >>= closing) 1 file ≡ r → read_of (whole_file r) ≡ read_of (read_file file)
+  read_as : length file ≤ most_bytes → {r : Reading PaperCertificate} → in_parts 1 file ≡ r → read_of (read_file file) ≡ read_of (whole_file r)
   unfolding read_file
-  read_as fits r e = rw (le-leb (length file) most_bytes fits, read_file) (ap (λ q. read_of (whole_file q)) (sym e ∙ (λ i. whole_file_lem i 1 file)))
+  read_as fits e = rw (le-leb (length file) most_bytes fits, read_file) (ap (λ q. read_of (whole_file q)) (sym (λ i. parts_are i 1 file) ∙ e))
+
+  read_stopped : length file ≤ most_bytes → {r : Refusal} → Stopped (in_parts 1 file) r → Err r ≡ read_of (read_file file)
+  unfolding read_of whole_file said_line
+  read_stopped fits {r} s = ap Err (sym (refusal_back r) ∙ ap (λ l. refusal_of (number r.reason) (said_line l)) s.names) ∙ sym (read_as fits s.is)
 
   -- tables that are refused
-  pub tables_refused : (k l : ℕ) → tables_read file 0 1 ≡ refused k l → refused_read k l ≡ read_of (read_file file)
-  unfolding tables_read read_file read_of line_number whole_file
-  tables_refused k l e = elim (decided (leb (length file) most_bytes)) [
-    | inl h ↦ let fits = leb-true (length file) most_bytes h in read_as fits (refused k l) (then_stop draft closing 1 file k l (sym (sized_fits 0 1 fits) ∙ e))
+  pub opening_refused : {r : Refusal} → (most_bytes < length file → ◌≡◌ {A = Opening} (Err r) (Err too_long)) → (length file ≤ most_bytes → Stopped (draft 1 file) r)
+      → Err r ≡ read_of (read_file file)
+  opening_refused {r} long fits = elim (decided (leb (length file) most_bytes)) [
+    | inl h ↦ let l = leb-true (length file) most_bytes h in read_stopped l (first_stopped draft _ (fits l))
     | inr h ↦
-        let long : tables_read file 0 1 ≡ refused 2 0 = rw (h, tables_read) in
-        let same : ◌≡◌ {A = Reading Draft} (refused 2 0) (refused k l) = sym long ∙ e in
-        let p : 2 ≡ k = cc in
-        let q : 0 ≡ l = cc in
-        rw (← p, ← q, h, read_file)
+        let l = leb-false (length file) most_bytes h in
+        let same : ◌≡◌ {A = Opening} (Err r) (Err too_long) = long l in
+        let is : r ≡ too_long = cc in
+        ap Err is ∙ read_long l
   ]
 
   -- tables that were read, up to c
-  module _ (c : Cursor) (t : Tables) (w : Went file tables_of (tables_read file 0 1) c t) where
-    first : draft 1 file ≡ gave w.what c.line (drop c.at file)
-    first = sym (sized_fits 0 1 w.placed.fits) ∙ w.is
-
+  module _ {c : Cursor} {t : Tables} (w : Went file tables_of (draft 1 file) c t) where
     states : t.initial.states ≡ w.what.A.states
     unfolding tables_of table_of
     states = ap (λ (x : Tables). x.initial.states) w.packs
 
-    few : t.initial.states ≤ most_states
-    few = omega (arith, states, draft_states 1 file w.what c.line (drop c.at file) first)
+    pub few_states : t.initial.states ≤ most_states
+    few_states = omega (arith, states, draft_states 1 file w.what c.line (drop c.at file) w.is)
 
-    -- what is answered by what closes them
-    closed : (r : Reading Certificate) → closing w.what c.line (drop c.at file) ≡ r → read_of (whole_file r) ≡ read_of (read_file file)
-    closed r e = read_as w.placed.fits r (then_next draft closing 1 file w.what c.line (drop c.at file) first ∙ e)
+    pub closing_refused : {r : Refusal} → Stopped (last_lines t.initial.states c.line (drop c.at file)) r → Err r ≡ read_of (read_file file)
+    closing_refused s = read_stopped w.placed.fits (next_stopped draft _ w.is (first_stopped (last_lines w.what.A.states) _ (rw states at s)))
 
-    pub merge_refused : (k m : ℕ) → merge_line t.initial.states c.line (drop c.at file) ≡ refused k m → refused_read k m ≡ read_of (read_file file)
-    unfolding closing read_of whole_file line_number
-    merge_refused k m g = closed (refused k m) (then_stop (merge_line w.what.A.states) _ c.line (drop c.at file) k m (rw states at g))
+    pub all_read : {m : Merging} → Ended (last_lines t.initial.states c.line (drop c.at file)) m
+        → ◌≡◌ {A = Result Certificate Refusal} (Ok (record { tables = t; merging = m })) (read_of (read_file file))
+    unfolding read_of whole_file draft_of merged give
+    all_read {m} g =
+        (λ i. Ok (record { tables = w.packs i; merging = g.packs i }))
+        ∙ sym (read_as w.placed.fits (then_next draft _ w.is ∙ then_next (last_lines w.what.A.states) _ (rw states at g.is)))
 
-    -- and the merging, up to d
-    module _ (d : Cursor) (m : Merging) (g : Went file merging_of (merge_line t.initial.states c.line (drop c.at file)) d m) where
-      ends : closing w.what c.line (drop c.at file) ≡ (end >> give (merged w.what g.what)) d.line (drop d.at file)
-      unfolding closing
-      ends = then_next (merge_line w.what.A.states) _ c.line (drop c.at file) g.what d.line (drop d.at file) (rw states at g.is)
-
-      pub bytes_follow : (n : ℕ) → n ≡ length (drop d.at file) → 0 < n → refused_read 3 d.line ≡ read_of (read_file file)
-      unfolding read_of whole_file line_number end ◌>>◌ go_on
-      bytes_follow n e h = closed (refused 3 d.line) (ends ∙ more (drop d.at file) (omega arith))
-        where
-          more : (bs : List ℕ) → 0 < length bs → (end >> give (merged w.what g.what)) d.line bs ≡ refused 3 d.line
-          more [] k = absurd (omega arith)
-          more (b ∷ bs) k = refl
-
-      pub all_read : (n : ℕ) → n ≡ length (drop d.at file) → n ≤ 0 → ◌≡◌ {A = Read} (record { refusal = 0; line = 0; tables = t; merging = m }) (read_of (read_file file))
-      unfolding read_of whole_file draft_of merged end ◌>>◌ go_on give
-      all_read n e h =
-          (λ i. record { refusal = 0; line = 0; tables = w.packs i; merging = g.packs i })
-          ∙ closed (gave (merged w.what g.what) d.line []) (ends ∙ none_left (drop d.at file) (omega arith))
-        where
-          none_left : (bs : List ℕ) → length bs ≤ 0 → (end >> give (merged w.what g.what)) d.line bs ≡ gave (merged w.what g.what) d.line []
-          none_left [] k = refl
-          none_left (b ∷ bs) k = absurd (omega arith)
-
-  -- Tables that were read are ready for a line `merge`.
-  pub ready : (a : Reached) (t : Tables) → Handed file tables_of no_tables (tables_read file 0 1) a t → ReadyAt file t (merge_place a) a
-  unfolding Handed ReadyAt merge_place
-  ready (At c) t w = record { here = refl; placed = w.placed; few = few c t w }
-  ready (Refused k l) t h = tt
-
-  -- What is ready is told at a place.
-  pub ready_at : (a : Reached) (t : Tables) (c d : Cursor) → ReadyAt file t d a → a ≡ At c → Behind file t c d
-  unfolding ReadyAt
-  ready_at a t c d h e = rw e at h
-
-  pub went_to : (a : Reached) (t : Tables) (c d : Cursor) → ReadyAt file t d a → a ≡ At c → Handed file tables_of no_tables (tables_read file 0 1) a t → Went file tables_of (tables_read file 0 1) d t
-  went_to a t c d h e g = let w = handed_at file tables_of no_tables (tables_read file 0 1) a t c g e in let here = (ready_at a t c d h e).here in rw here at w
+-- Tables that were read are those of a file that is not too long.
+pub opened : (v w : View) (t : Tables) → (most_bytes < length v.file.now → ◌≡◌ {A = Opening} (Ok (t, w)) (Err too_long))
+    → (length v.file.now ≤ most_bytes → HandedView v (Ok (t, w))) → HandedView v (Ok (t, w))
+opened v w t long fits = elim (decided (leb (length v.file.now) most_bytes)) [
+  | inl h ↦ fits (leb-true (length v.file.now) most_bytes h)
+  | inr h ↦ let no = long (leb-false (length v.file.now) most_bytes h) in cc
+]

@@ -1,33 +1,38 @@
 -- What every reading leaves: the tables hold the file's certificate, and are sound.
 use mathlib.Core.Path.{◌≡◌, refl, sym, ap, ◌∙◌}
-use mathlib.Core.Option.{Option, none, some}
-use mathlib.Core.List.{List}
+use mathlib.Core.Option.{Option}
+use mathlib.Core.List.{List, []}
 use mathlib.Core.Logic.{inl, inr}
-use Prim.Native.Nat.{ℕ, zero, suc, ◌≤◌, ◌<◌}
+use Prim.Native.Nat.{ℕ, ◌≤◌, ◌<◌}
 use native.Mathlib.Omega.{arith}
 use lib.ListN.{length, get_or}
+use Rattle.std.specs.Prelude.{Some, Result, Ok, Err}
 use Rattle.theory.specs.Automaton.{classes}
-use Rattle.paper.specs.Certificate.{Certificate}
+use Rattle.paper.specs.Certificate.{Certificate as PaperCertificate}
 use Rattle.paper.specs.WellFormed.{WellFormed}
-use Rattle.paper.specs.Format.{line_at, line_number, Reading, File, unreadable, holds, read_file, Refusal, too_long, on_line}
+use Rattle.paper.specs.Format.{Reading, refused, gave, File, unreadable, holds, read_file, Refusal as PaperRefusal, too_long, on_line}
 use Rattle.paper.proofs.Admitted.{admitted}
 use Rattle.paper.proofs.Refused.{refused_or_holds}
-use Rattle.tables.specs.Held.{automaton_of, rules_of, arities_of, merge_of, held}
+use Rattle.tables.specs.Held.{automaton_of, rules_of, arities_of, merge_of, held, no_rule}
 use Rattle.tables.specs.Sound.{SoundRule, Sound}
 use Rattle.tables.specs.declared.Tables.{Tables}
 use Rattle.tables.specs.declared.Merging.{Merging}
-use Rattle.certificate.specs.declared.reading.Read.{Read}
-use Rattle.certificate.specs.declared.opening.Opening.{Opening}
-use Rattle.certificate.specs.declared.merging.ReadMerging.{ReadMerging}
-use Rattle.blocks.specs.Draft.{Draft}
-use Rattle.blocks.specs.Handed.{Handed}
-use Rattle.blocks.proofs.Chain.{one_handed}
-use Rattle.blocks.specs.Packed.{row_of, flat, packed_rows, table_of, packed_rules, tables_of, merging_of, no_tables, no_merging}
-use Rattle.certificate.specs.Read.{draft_of, read_of, refused_read, said_read}
+use Rattle.tables.specs.declared.certificate.Certificate.{Certificate}
+use Rattle.verdicts.specs.declared.refusals.Refusal.{Refusal}
+use Rattle.verdicts.specs.Refused.{number, refusal_of}
+use Rattle.verdicts.proofs.Told.{number_back, said_back}
+use Rattle.fields.specs.declared.cursor.Cursor.{Cursor}
 use Rattle.fields.proofs.Whole.{padded_low, padded_length}
+use Rattle.fields.proofs.Fixed.{same_gave, same_refused, not_both}
+use Rattle.view.specs.declared.View.{View}
+use Rattle.blocks.specs.Draft.{Draft}
+use Rattle.blocks.specs.Handed.{Stopped, Handed}
+use Rattle.blocks.specs.Packed.{row_of, flat, packed_rows, table_of, packed_rules, tables_of, merging_of}
 use Rattle.blocks.proofs.Arrays.{take_padded, list_low}
+use Rattle.blocks.proofs.Chain.{one_handed}
+use Rattle.certificate.specs.Read.{draft_of, read_of, said_read, HandedLast, place_of, HandedView}
 use Rattle.certificate.proofs.HeldTables.{table_back, table_small}
-use Rattle.certificate.proofs.HeldRules.{rules_back, sound_rule, no_rule, few_variables}
+use Rattle.certificate.proofs.HeldRules.{rules_back, sound_rules, few_variables}
 
 arities_back : (d : Draft) → length d.arities ≤ 64 → arities_of (tables_of d) ≡ d.arities
 unfolding arities_of tables_of
@@ -37,7 +42,7 @@ merge_back : (d : Draft) (merge : List ℕ) → length merge ≡ d.A.states → 
 unfolding merge_of tables_of merging_of table_of
 merge_back d merge e h = rw (← e) (take_padded 64 merge (omega arith))
 
-held_is : (t : Tables) (m : Merging) (c : Certificate) → t.budget ≡ c.budget → arities_of t ≡ c.arities → automaton_of c.arities t.initial ≡ c.A → automaton_of c.arities t.bad ≡ c.B
+held_is : (t : Tables) (m : Merging) (c : PaperCertificate) → t.budget ≡ c.budget → arities_of t ≡ c.arities → automaton_of c.arities t.initial ≡ c.A → automaton_of c.arities t.bad ≡ c.B
     → rules_of c.arities t.rules ≡ c.rules → merge_of t m ≡ c.merge → held t m ≡ c
 unfolding held
 held_is t m c b ar i j r e =
@@ -46,7 +51,7 @@ held_is t m c b ar i j r e =
     let all = ap (λ (l : List ℕ). rules_of l t.rules) ar ∙ r in
     λ k. record { budget = b k; arities = ar k; A = first k; B = second k; rules = all k; merge = e k }
 
-module _ (c : Certificate) (w : WellFormed c) where
+module _ (c : PaperCertificate) (w : WellFormed c) where
   low : (a : ℕ) → get_or c.arities a 0 ≤ 3
   low = list_low 3 c.arities w.arities
 
@@ -68,9 +73,6 @@ module _ (c : Certificate) (w : WellFormed c) where
       (rules_back c.arities c.rules w.most_arities w.rules_bound w.rules)
       own_merge
 
-  sound_rules : (ar : List ℕ) → ar ≡ c.arities → (i : ℕ) → i < (packed_rules c.rules).count → SoundRule ar (packed_rules c.rules) i
-  sound_rules ar e i h = rw e (sound_rule c.arities c.rules w.most_arities w.rules_bound w.rules i no_rule (unfold packed_rules in h))
-
   -- and are sound
   pub sound : Sound (tables_of (draft_of c)) (merging_of c.merge)
   sound =
@@ -86,62 +88,77 @@ module _ (c : Certificate) (w : WellFormed c) where
         classes = counted own_merge;
       }
     where
-      ruled : arities_of (tables_of (draft_of c)) ≡ c.arities → (i : ℕ) → i < (tables_of (draft_of c)).rules.count → SoundRule (arities_of (tables_of (draft_of c))) (tables_of (draft_of c)).rules i
-      ruled e i h = unfold tables_of draft_of in (sound_rules (arities_of (tables_of (draft_of c))) e i h)
+      ruled : arities_of (tables_of (draft_of c)) ≡ c.arities → (i : ℕ) → i < (tables_of (draft_of c)).rules.count
+          → SoundRule (arities_of (tables_of (draft_of c))) (get_or (tables_of (draft_of c)).rules.rules i no_rule)
+      ruled e i h = rw e (unfold tables_of draft_of packed_rules in (sound_rules c.arities c.rules w.most_arities w.rules_bound w.rules i h))
 
       counted : merge_of (tables_of (draft_of c)) (merging_of c.merge) ≡ c.merge → (merging_of c.merge).classes ≡ classes (merge_of (tables_of (draft_of c)) (merging_of c.merge))
       counted e = unfold merging_of in (ap classes (sym e))
 
--- A refusal's number and its line are never 0.
-refusal_above : (file : List ℕ) (n : ℕ) (line : Option ℕ) → read_file file ≡ unreadable n line → (0 < n) × ((l : ℕ) → line ≡ some l → 0 < l)
-refusal_above file n line e = elim (refused_or_holds file) [
-  | inl (m, at, d, r) ↦ let same : m ≡ n = cc in let here : at ≡ line = cc in rw (← same, ← here) (above r)
-  | inr (c, d) ↦ let z : ◌≡◌ {A = ℕ} 0 1 = cc in absurd (omega arith)
+-- A file is refused by a number from 1 to 11.
+refusal_within : (file : List ℕ) (n : ℕ) (line : Option ℕ) → read_file file ≡ unreadable n line → (1 ≤ n) × (n ≤ 11)
+refusal_within file n line e = elim (refused_or_holds file) [
+  | inl (m, at, d, r) ↦ let same : m ≡ n = cc in rw (← same) (within r)
+  | inr (c, d) ↦ cc
 ]
   where
-    above : {m : ℕ} {at : Option ℕ} → Refusal m at → (0 < m) × ((l : ℕ) → at ≡ some l → 0 < l)
-    above too_long = (omega arith, λ l e. let z : ◌≡◌ {A = ℕ} 0 1 = cc in absurd (omega arith))
-    above (on_line {line = k} a b c d) = (omega arith, λ l e. let same : k ≡ l = cc in omega arith)
+    within : {m : ℕ} {at : Option ℕ} → PaperRefusal m at → (1 ≤ m) × (m ≤ 11)
+    within too_long = (omega arith, omega arith)
+    within (on_line a b c d) = (omega arith, b)
 
 -- What is answered says what the file is.
-said_file : (f : File) → ((n : ℕ) (line : Option ℕ) → f ≡ unreadable n line → (0 < n) × ((l : ℕ) → line ≡ some l → 0 < l)) → ((c : Certificate) → f ≡ holds c → WellFormed c)
-    → said_read (read_of f) ≡ f
-unfolding said_read read_of refused_read line_number line_at
+said_file : (f : File) → ((n : ℕ) (line : Option ℕ) → f ≡ unreadable n line → (1 ≤ n) × (n ≤ 11)) → ((c : PaperCertificate) → f ≡ holds c → WellFormed c) → said_read (read_of f) ≡ f
+unfolding said_read read_of refusal_of
 said_file (holds c) h g = ap holds (held_back c (g c refl))
-said_file (unreadable zero line) h g = absurd (omega (arith, (h zero line refl).0))
-said_file (unreadable (suc n) none) h g = refl
-said_file (unreadable (suc n) (some zero)) h g = absurd (omega (arith, (h (suc n) (some zero) refl).1 zero refl))
-said_file (unreadable (suc n) (some (suc l))) h g = refl
+said_file (unreadable n line) h g = let (low, high) = h n line refl in rw (number_back n low high, said_back line)
 
 pub said_read_lem : (file : List ℕ) → said_read (read_of (read_file file)) ≡ read_file file
-said_read_lem file = said_file (read_file file) (refusal_above file) (admitted file)
+said_read_lem file = said_file (read_file file) (refusal_within file) (admitted file)
 
--- Read without a refusal, the tables are sound.
-sound_file : (f : File) → ((n : ℕ) (line : Option ℕ) → f ≡ unreadable n line → (0 < n) × ((l : ℕ) → line ≡ some l → 0 < l)) → ((c : Certificate) → f ≡ holds c → WellFormed c)
-    → (read_of f).refusal ≡ 0 → Sound (read_of f).tables (read_of f).merging
-unfolding read_of refused_read
-sound_file (holds c) h g e = sound c (g c refl)
-sound_file (unreadable n line) h g e = absurd (omega (arith, (h n line refl).0))
+-- What is read is sound.
+sound_file : (f : File) → ((c : PaperCertificate) → f ≡ holds c → WellFormed c) → (c : Certificate) → read_of f ≡ Ok c → Sound c.tables c.merging
+unfolding read_of
+sound_file (holds d) g c e = let same : ◌≡◌ {A = Certificate} (record { tables = tables_of (draft_of d); merging = merging_of d.merge }) c = cc in rw (← same) (sound d (g d refl))
+sound_file (unreadable n line) g c e = cc
 
-pub read_sound : (file : List ℕ) (r : Read) → r ≡ read_of (read_file file) → r.refusal ≡ 0 → Sound r.tables r.merging
-read_sound file r e z = rw e (sound_file (read_file file) (refusal_above file) (admitted file) (sym (ap (λ (x : Read). x.refusal) e) ∙ z))
+pub read_sound : (file : List ℕ) (r : Result Certificate Refusal) (c : Certificate) → r ≡ read_of (read_file file) → r ≡ Ok c → Sound c.tables c.merging
+read_sound file r c e f = sound_file (read_file file) (admitted file) c (sym e ∙ f)
 
 -- Two answers for one file are equal.
-pub one_read : (file : List ℕ) (r s : Read) → r ≡ read_of (read_file file) → s ≡ read_of (read_file file) → r ≡ s
+pub one_read : (file : List ℕ) (r s : Result Certificate Refusal) → r ≡ read_of (read_file file) → s ≡ read_of (read_file file) → r ≡ s
 one_read file r s p q = p ∙ sym q
 
-pub read_said : (file : List ℕ) (r : Read) → r ≡ read_of (read_file file) → said_read r ≡ read_file file
+pub read_said : (file : List ℕ) (r : Result Certificate Refusal) → r ≡ read_of (read_file file) → said_read r ≡ read_file file
 read_said file r e = ap said_read e ∙ said_read_lem file
 
 -- The same of the parts.
-pub one_opening : (file : List ℕ) (reading : Reading Draft) (r s : Opening) → Handed file tables_of no_tables reading r.answer r.tables
-    → Handed file tables_of no_tables reading s.answer s.tables → r ≡ s
-one_opening file reading r s p q =
-    let (a, b) = one_handed file tables_of no_tables reading r.answer s.answer r.tables s.tables p q in
-    λ i. record { answer = a i; tables = b i }
+one_refusal : {X : Type 0} {reading : Reading X} {r s : Refusal} → Stopped reading r → Stopped reading s → r ≡ s
+one_refusal {X} {reading} {r} {s} p q =
+    let e : ◌≡◌ {A = Reading X} (refused (number r.reason) p.line) (refused (number s.reason) q.line) = sym p.is ∙ q.is in
+    let lines : p.line ≡ q.line = cc in
+    same_refused p.line r s (rw (← lines) at e) (p.names ∙ ap Some lines ∙ sym q.names)
 
-pub one_merging : (file : List ℕ) (reading : Reading (List ℕ)) (r s : ReadMerging) → Handed file merging_of no_merging reading r.answer r.merging
-    → Handed file merging_of no_merging reading s.answer s.merging → r ≡ s
-one_merging file reading r s p q =
-    let (a, b) = one_handed file merging_of no_merging reading r.answer s.answer r.merging s.merging p q in
-    λ i. record { answer = a i; merging = b i }
+pub one_opening : (file : List ℕ) (reading : Reading Draft) (r s : Result (Tables × Cursor) Refusal) → Handed file tables_of reading r → Handed file tables_of reading s → r ≡ s
+one_opening file reading = one_handed file tables_of reading
+
+pub one_merging : (file : List ℕ) (reading : Reading (List ℕ)) (r s : Result (Merging × Cursor) Refusal) → Handed file merging_of reading r → Handed file merging_of reading s → r ≡ s
+one_merging file reading = one_handed file merging_of reading
+
+pub one_view : (v : View) (r s : Result (Tables × View) Refusal) → HandedView v r → HandedView v s → r ≡ s
+one_view v (Ok (t, w)) (Ok (u, x)) (f, p) (g, q) =
+    let (same, place) = same_gave v.file.now p.what q.what (place_of w) (place_of x) p.placed q.placed (sym p.is ∙ q.is) in
+    let tables : t ≡ u = p.packs ∙ ap tables_of same ∙ sym q.packs in
+    let file = f ∙ sym g in
+    λ i. Ok (tables i, record { file = file i; at = (place i).at; line = (place i).line })
+one_view v (Ok (t, w)) (Err s) (f, p) q = absurd (not_both _ _ _ _ _ (sym q.is ∙ p.is))
+one_view v (Err r) (Ok (u, x)) p (g, q) = absurd (not_both _ _ _ _ _ (sym p.is ∙ q.is))
+one_view v (Err r) (Err s) p q = ap Err (one_refusal p q)
+
+pub one_last : (reading : Reading (List ℕ)) (r s : Result Merging Refusal) → HandedLast reading r → HandedLast reading s → r ≡ s
+one_last reading (Ok m) (Ok n) p q =
+    let e : gave p.what p.line [] ≡ gave q.what q.line [] = sym p.is ∙ q.is in
+    let same : p.what ≡ q.what = cc in
+    ap Ok (p.packs ∙ ap merging_of same ∙ sym q.packs)
+one_last reading (Ok m) (Err s) p q = absurd (not_both _ _ _ _ _ (sym q.is ∙ p.is))
+one_last reading (Err r) (Ok n) p q = absurd (not_both _ _ _ _ _ (sym p.is ∙ q.is))
+one_last reading (Err r) (Err s) p q = ap Err (one_refusal p q)

@@ -3,7 +3,7 @@ use mathlib.Core.Path.{◌≡◌, refl, sym, ap, ap₂, ◌∙◌}
 use mathlib.Core.Logic.{inl, inr, ◌↔◌}
 use mathlib.Core.List.{List, [], Memᴰ}
 use mathlib.Core.Option.{Option, none, some}
-use Prim.Native.Nat.{ℕ, ◌≤◌, ◌<◌}
+use Prim.Native.Nat.{ℕ, zero, suc, ◌≤◌, ◌<◌}
 use native.Mathlib.Omega.{arith}
 use borrow.Author.Tests.{ltb-true, ltb-false}
 use lib.Dec.{ltb}
@@ -30,19 +30,50 @@ use Rattle.paper.proofs.Demands.{given_exactly, accepted_exactly, malformed_exac
 use Rattle.paper.proofs.Questions.{sharing_exactly, closure_exactly, sharing_refused, closure_refused, closure_answers, closed_closes, put_together}
 use Rattle.paper.proofs.Contract.{short_untouched, answer_stands, rest_stays, number_and_length}
 use Rattle.paper.proofs.Distinct.{answer_tells}
-use Rattle.verdicts.specs.declared.Sharing.{Sharing}
+use Rattle.std.specs.declared.option.Option.{Option as RustOption}
+use Rattle.std.specs.declared.option.Option.TheVariants.{None, Some}
+use Rattle.std.specs.declared.result.Result.{Result}
+use Rattle.std.specs.declared.result.Result.TheVariants.{Ok}
+use Rattle.verdicts.specs.declared.refusals.Reason.{Reason}
+use Rattle.verdicts.specs.declared.refusals.Reason.TheVariants.{TooLong}
+use Rattle.verdicts.specs.declared.refusals.Refusal.{Refusal}
+use Rattle.verdicts.specs.declared.FinalPair.{FinalPair}
 use Rattle.verdicts.specs.declared.Closure.{Closure}
 use Rattle.verdicts.specs.declared.Closure.TheVariants.{Closed}
-use Rattle.verdicts.specs.Said.{said_sharing, said_closure, Tells}
-use Rattle.verdicts.proofs.Told.{one_sharing, one_closure}
+use Rattle.verdicts.specs.Refused.{number, reason_of, numbered, asked}
+use Rattle.verdicts.specs.Said.{said_sharing, said_closure, TellsOfFile}
+use Rattle.verdicts.proofs.Told.{reason_back, one_sharing_of_file, one_closure_of_file}
 use Rattle.checker.specs.declared.Answered.{Answered}
 use Rattle.checker.specs.Gave.{gave, Answers, Begins}
+use Rattle.checker.proofs.Laws.{tells_says}
+
+-- The reason that has this number, and none for 0.
+abbrev reason_for : ℕ → RustOption Reason
+reason_for zero = None
+reason_for (suc n) = Some (reason_of (suc n))
+
+reason_above : (r : Reason) → number r ≡ 0 → ⊥
+unfolding number reason_of
+reason_above r e =
+    let is : TooLong ≡ r = ap reason_of (sym e) ∙ reason_back r in
+    let two : ◌≡◌ {A = ℕ} 2 0 = ap number is ∙ e in
+    omega arith
+
+reason_for_back : (r : RustOption Reason) → reason_for (numbered r) ≡ r
+unfolding numbered
+reason_for_back None = refl
+reason_for_back (Some r) = go (number r) refl
+  where
+    go : (n : ℕ) → number r ≡ n → reason_for (number r) ≡ Some r
+    go zero e = absurd (reason_above r e)
+    go (suc n) e = rw e (ap Some (rw e at (reason_back r)))
 
 -- Two results that the contract allows are the same.
 pub one_answer : (file buffer : List ℕ) (r s : Answered) (left other : List ℕ) → Answers file buffer r left → Answers file buffer s other → (r ≡ s) × (left ≡ other)
 one_answer file buffer r s left other p q =
     let e : gave r left ≡ gave s other = p ∙ sym q in
-    (ap (λ (x : Returned). record { number = x.number; length = x.written }) e, ap (λ (x : Returned). x.buffer) e)
+    let reason : r.reason ≡ s.reason = sym (reason_for_back r.reason) ∙ (ap (λ (x : Returned). reason_for x.number) e ∙ reason_for_back s.reason) in
+    (λ i. record { reason = reason i; length = ap (λ (x : Returned). x.written) e i }, ap (λ (x : Returned). x.buffer) e)
 
 -- A verdict's answer begins with `verdict=accepted` only where it is accepted: the first letter tells.
 accepted_begins : (v : Verdict) → Begins "verdict=accepted" (answer v) → (n : ℕ) × (v ≡ accepted n)
@@ -82,14 +113,14 @@ not_refused c (stopped n) g = refl
 
 module _ (file buffer : List ℕ) (r : Answered) (left : List ℕ) (given : Answers file buffer r left) where
   -- Demand 1. A buffer under 128 bytes: 1, length 0, and nothing is written.
-  pub untouched : length buffer < least_buffer → (r.number ≡ 1) × (r.length ≡ 0) × (left ≡ buffer)
+  pub untouched : length buffer < least_buffer → (numbered r.reason ≡ 1) × (r.length ≡ 0) × (left ≡ buffer)
   untouched h =
       let e = given ∙ short_untouched file buffer h in
       (ap (λ (x : Returned). x.number) e, ap (λ (x : Returned). x.written) e, ap (λ (x : Returned). x.buffer) e)
 
   -- Otherwise the number of the refusal, the length of the answer, the answer's own bytes, and the later bytes as they were.
   pub written : least_buffer ≤ length buffer
-      → (r.number ≡ refusal (verdict_of file)) × (r.length ≡ length (answer_of file)) × (take r.length left ≡ answer_of file) × (drop r.length left ≡ drop r.length buffer)
+      → (numbered r.reason ≡ refusal (verdict_of file)) × (r.length ≡ length (answer_of file)) × (take r.length left ≡ answer_of file) × (drop r.length left ≡ drop r.length buffer)
   written h =
       let (number, count) = number_and_length file buffer h in
       let n : r.length ≡ length (answer_of file) = ap (λ (x : Returned). x.written) given ∙ count in
@@ -98,7 +129,7 @@ module _ (file buffer : List ℕ) (r : Answered) (left : List ℕ) (given : Answ
 
   -- A refused file: its number and its line.
   pub refused_written : least_buffer ≤ length buffer → (number : ℕ) (line : Option ℕ) → read_file file ≡ unreadable number line
-      → (take r.length left ≡ answer (malformed number line)) × (r.number ≡ number)
+      → (take r.length left ≡ answer (malformed number line)) × (numbered r.reason ≡ number)
   unfolding answer_of refusal
   refused_written h n line e =
       let (number, count, bs, later) = written h in
@@ -106,15 +137,15 @@ module _ (file buffer : List ℕ) (r : Answered) (left : List ℕ) (given : Answ
       (bs ∙ ap answer is, number ∙ ap refusal is)
 
   -- In the words of the table of refusals: 2 for a file that is too long, and else the first line with a reason and the smallest number on it.
-  pub too_long_written : least_buffer ≤ length buffer → most_bytes < length file → (take r.length left ≡ answer (malformed 2 none)) × (r.number ≡ 2)
+  pub too_long_written : least_buffer ≤ length buffer → most_bytes < length file → (take r.length left ≡ answer (malformed 2 none)) × (numbered r.reason ≡ 2)
   too_long_written h l = refused_written h 2 none ((too_long_exact file 2).1 (refl, l))
 
   pub reason_written : least_buffer ≤ length buffer → length file ≤ most_bytes → (n L : ℕ) → First (laid_certificate 1 file) n L
-      → (take r.length left ≡ answer (malformed n (some L))) × (r.number ≡ n)
+      → (take r.length left ≡ answer (malformed n (some L))) × (numbered r.reason ≡ n)
   reason_written h l n L f = refused_written h n (some L) ((refused_exact file n L).1 (l, f))
 
   -- Demand 2: the row of the table that holds of the file's tables is the answer written, with the number 0 ..
-  pub given_written : least_buffer ≤ length buffer → (c : Certificate) → read_file file ≡ holds c → (v : Verdict) → Given c v → (take r.length left ≡ answer v) × (r.number ≡ 0)
+  pub given_written : least_buffer ≤ length buffer → (c : Certificate) → read_file file ≡ holds c → (v : Verdict) → Given c v → (take r.length left ≡ answer v) × (numbered r.reason ≡ 0)
   unfolding answer_of
   given_written h c e v g =
       let (number, count, bs, later) = written h in
@@ -153,41 +184,45 @@ module _ (file buffer : List ℕ) (r : Answered) (left : List ℕ) (given : Answ
       rw (bs, is) (begins_accepted (total (classes c.merge) c.rules))
 
 -- The first question. Two results that its contract allows are the same ..
-pub one_sharing_answer : (file : List ℕ) (r s : Sharing) → said_sharing r ≡ sharing_of file → said_sharing s ≡ sharing_of file → r ≡ s
-one_sharing_answer file r s d e = one_sharing r s (d ∙ sym e)
+pub one_sharing_answer : (file : List ℕ) (r s : Result (RustOption FinalPair) Refusal) → asked said_sharing r ≡ sharing_of file → asked said_sharing s ≡ sharing_of file → r ≡ s
+one_sharing_answer file r s d e = one_sharing_of_file r s (d ∙ sym e)
 
-module _ (file : List ℕ) (r : Sharing) (given : said_sharing r ≡ sharing_of file) where
+module _ (file : List ℕ) (r : Result (RustOption FinalPair) Refusal) (given : asked said_sharing r ≡ sharing_of file) where
   -- .. it says what there is of final pairs that share a tree, both ways ..
-  pub sharing_told : (c : Certificate) → read_file file ≡ holds c → (s : Paper.Sharing) → (said_sharing r ≡ Asked.answered s) ↔ SharingGiven c s
+  pub sharing_told : (c : Certificate) → read_file file ≡ holds c → (s : Paper.Sharing) → (asked said_sharing r ≡ Asked.answered s) ↔ SharingGiven c s
   sharing_told c e s = let (to, from) = sharing_exactly file c e s in (λ h. to (sym given ∙ h), λ g. given ∙ from g)
 
   -- .. or refuses the file as the reading does.
-  pub sharing_refusal_told : (number : ℕ) (line : Option ℕ) → (said_sharing r ≡ Asked.refused number line) ↔ (read_file file ≡ unreadable number line)
+  pub sharing_refusal_told : (number : ℕ) (line : Option ℕ) → (asked said_sharing r ≡ Asked.refused number line) ↔ (read_file file ≡ unreadable number line)
   sharing_refusal_told number line = let (to, from) = sharing_refused file number line in (λ h. to (sym given ∙ h), λ e. given ∙ from e)
 
 -- The second. Two results that its contract allows are the same ..
-pub one_closure_answer : (file : List ℕ) (r s : Closure) → Tells (closure_of file) r → Tells (closure_of file) s → r ≡ s
-one_closure_answer file = one_closure (closure_of file)
+pub one_closure_answer : (file : List ℕ) (r s : Result Closure Refusal) → TellsOfFile (closure_of file) r → TellsOfFile (closure_of file) s → r ≡ s
+one_closure_answer file = one_closure_of_file (closure_of file)
 
-module _ (file : List ℕ) (r : Closure) (given : Tells (closure_of file) r) where
+module _ (file : List ℕ) (r : Result Closure Refusal) (given : TellsOfFile (closure_of file) r) where
+  says : asked said_closure r ≡ closure_of file
+  says = tells_says (closure_of file) r given
+
   -- .. it says what there is of critical pairs within the budget, both ways ..
-  pub closure_told : (c : Certificate) → read_file file ≡ holds c → (k : Paper.Closure) → (said_closure r ≡ Asked.answered k) ↔ ClosureGiven c k
-  closure_told c e k = let (to, from) = closure_exactly file c e k in (λ h. to (sym given.says ∙ h), λ g. given.says ∙ from g)
+  pub closure_told : (c : Certificate) → read_file file ≡ holds c → (k : Paper.Closure) → (asked said_closure r ≡ Asked.answered k) ↔ ClosureGiven c k
+  closure_told c e k = let (to, from) = closure_exactly file c e k in (λ h. to (sym says ∙ h), λ g. says ∙ from g)
 
   -- .. or refuses the file as the reading does.
-  pub closure_refusal_told : (number : ℕ) (line : Option ℕ) → (said_closure r ≡ Asked.refused number line) ↔ (read_file file ≡ unreadable number line)
-  closure_refusal_told number line = let (to, from) = closure_refused file number line in (λ h. to (sym given.says ∙ h), λ e. given.says ∙ from e)
+  pub closure_refusal_told : (number : ℕ) (line : Option ℕ) → (asked said_closure r ≡ Asked.refused number line) ↔ (read_file file ≡ unreadable number line)
+  closure_refusal_told number line = let (to, from) = closure_refused file number line in (λ h. to (sym says ∙ h), λ e. says ∙ from e)
 
   -- Where it says closed, the file holds tables, and every tree that A accepts, rewritten any number of times, is accepted by the merged automaton.
-  pub closed_told : (n : ℕ) → r ≡ Closed n → (c : Certificate) × (read_file file ≡ holds c) × ((s t : Tree) → Accepts c.A s → Rewrites c.rules s t → Accepts (merged c.merge c.A) t)
-  unfolding said_closure
+  pub closed_told : (n : ℕ) → r ≡ Ok (Closed n) → (c : Certificate) × (read_file file ≡ holds c) × ((s t : Tree) → Accepts c.A s → Rewrites c.rules s t → Accepts (merged c.merge c.A) t)
+  unfolding asked said_closure
   closed_told n e =
-      let said : closure_of file ≡ Asked.answered (Paper.Closure.closed n) = sym given.says ∙ ap said_closure e in
+      let said : closure_of file ≡ Asked.answered (Paper.Closure.closed n) = sym says ∙ ap (asked said_closure) e in
       elim (closure_answers file) [
         | inl (number, line, f, h) ↦ let both : Asked.refused number line ≡ Asked.answered (Paper.Closure.closed n) = sym f ∙ said in let z : ◌≡◌ {A = ℕ} 0 1 = cc in absurd (omega arith)
         | inr (c, h, f) ↦ (c, h, closed_closes file n said c h)
       ]
 
 -- The verdict is what the two say together.
-pub told_together : (file : List ℕ) (r : Sharing) (k : Closure) → said_sharing r ≡ sharing_of file → Tells (closure_of file) k → verdict_of file ≡ together (said_sharing r) (said_closure k)
-told_together file r k d e = put_together file ∙ sym (ap₂ together d e.says)
+pub told_together : (file : List ℕ) (r : Result (RustOption FinalPair) Refusal) (k : Result Closure Refusal) → asked said_sharing r ≡ sharing_of file → TellsOfFile (closure_of file) k
+    → verdict_of file ≡ together (asked said_sharing r) (asked said_closure k)
+told_together file r k d e = put_together file ∙ sym (ap₂ together d (tells_says (closure_of file) k e))

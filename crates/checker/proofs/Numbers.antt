@@ -1,5 +1,5 @@
 -- The numbers for C say what the code's answers say, and two files with the same numbers have the same answer.
-use mathlib.Core.Path.{◌≡◌, refl, sym, ap, ap₂, subst, ◌∙◌}
+use mathlib.Core.Path.{◌≡◌, refl, sym, ap, ap₂, ◌∙◌}
 use mathlib.Core.Logic.{inl, inr}
 use mathlib.Core.List.{List, [], ◌∷◌, Memᴰ}
 use mathlib.Core.Option.{Option}
@@ -15,33 +15,17 @@ use Rattle.paper.proofs.Exact.{closure_given}
 use Rattle.paper.proofs.Bounds.{ClosureRanged, closure_ranged}
 use Rattle.paper.proofs.Questions.{sharing_answers, closure_answers}
 use Rattle.verdicts.specs.declared.CriticalPair.{CriticalPair}
-use Rattle.verdicts.specs.declared.Sharing.{Sharing}
-use Rattle.verdicts.specs.declared.Sharing.TheVariants.{Refused as SharingRefused}
-use Rattle.verdicts.specs.declared.Closure.{Closure}
-use Rattle.verdicts.specs.declared.Closure.TheVariants.{Critical, Refused as ClosureRefused}
-use Rattle.verdicts.specs.Said.{class_then, said_sharing, said_closure, EndedIn}
-use Rattle.verdicts.proofs.Told.{shown_class, classes_are, line_back_lem, line_is}
+use Rattle.verdicts.specs.Said.{class_then, classes_of, Ended}
+use Rattle.verdicts.proofs.Told.{shown_class, classes_are}
 use Rattle.checker.specs.Numbers.{sharing_kind, sharing_numbers, closure_kind, closure_numbers}
 
--- A refusal of the first question ..
-pub sharing_refused : (s : Sharing) (number line : ℕ) → s ≡ SharingRefused number line
-    → (2 ≡ sharing_kind (said_sharing s)) × (number ∷ line ∷ 255 ∷ 255 ∷ [] ≡ sharing_numbers (said_sharing s))
-unfolding said_sharing sharing_kind sharing_numbers
-sharing_refused s number line e = rw e (refl, ap (λ l. number ∷ l ∷ 255 ∷ 255 ∷ []) (sym (line_back_lem line)))
-
--- .. and of the second.
-pub closure_refused : (k : Closure) (number line : ℕ) → k ≡ ClosureRefused number line
-    → (3 ≡ closure_kind (said_closure k)) × (number ∷ line ∷ 255 ∷ 255 ∷ 255 ∷ 255 ∷ 255 ∷ 255 ∷ 0 ∷ [] ≡ closure_numbers (said_closure k))
-unfolding said_closure closure_kind closure_numbers
-closure_refused k number line e = rw e (refl, ap (λ l. number ∷ l ∷ 255 ∷ 255 ∷ 255 ∷ 255 ∷ 255 ∷ 255 ∷ 0 ∷ []) (sym (line_back_lem line)))
-
 -- A critical pair: its class numbers are the classes of its variables, and 255 behind them.
-pub closure_critical : (k : Closure) (p : CriticalPair) (n : ℕ) → k ≡ Critical p n → EndedIn k
-    → (1 ≡ closure_kind (said_closure k)) × (0 ∷ 0 ∷ p.rule ∷ p.x0 ∷ p.x1 ∷ p.x2 ∷ p.x3 ∷ p.class ∷ n ∷ [] ≡ closure_numbers (said_closure k))
-unfolding said_closure closure_kind closure_numbers EndedIn
-closure_critical k p n e h =
-    let is = classes_are p (subst EndedIn e h) in
-    rw e (refl, λ i. 0 ∷ 0 ∷ p.rule ∷ sym is.x0_is i ∷ sym is.x1_is i ∷ sym is.x2_is i ∷ sym is.x3_is i ∷ p.class ∷ n ∷ [])
+pub critical_numbers : (p : CriticalPair) (n : ℕ) → Ended p
+    → 0 ∷ 0 ∷ p.rule ∷ p.x0 ∷ p.x1 ∷ p.x2 ∷ p.x3 ∷ p.class ∷ n ∷ [] ≡ closure_numbers (Asked.answered (Paper.Closure.critical p.rule (classes_of p) p.class n))
+unfolding closure_numbers
+critical_numbers p n h =
+    let is = classes_are p h in
+    λ i. 0 ∷ 0 ∷ p.rule ∷ sym is.x0_is i ∷ sym is.x1_is i ∷ sym is.x2_is i ∷ sym is.x3_is i ∷ p.class ∷ n ∷ []
 
 -- What C reads from the numbers.
 abbrev sharing_from : ℕ → List ℕ → Asked Paper.Sharing
@@ -62,7 +46,8 @@ closure_from (suc (suc (suc k))) ns = Asked.refused (get_or ns 0 0) (line_at (ge
 line_there : {number : ℕ} {line : Option ℕ} → Refusal number line → line_at (line_number line) ≡ line
 unfolding line_at line_number
 line_there too_long = refl
-line_there (on_line {line = line} l h m n) = line_is line (λ e. omega arith)
+line_there (on_line {line = zero} l h m n) = absurd (omega arith)
+line_there (on_line {line = suc line} l h m n) = refl
 
 -- At most four classes, each below 255, are read back.
 classes_back : (xs : List ℕ) → length xs ≤ 4 → ((x : ℕ) → Memᴰ x xs → x < 255)

@@ -16,10 +16,12 @@ use Rattle.paper.proofs.Smallest.{decided}
 use Rattle.paper.proofs.Checked.{silent, parts}
 use Rattle.paper.proofs.Lines.{entries_sound}
 use Rattle.paper.specs.Certificate.{Row}
+use Rattle.std.specs.declared.option.Option.{Option}
+use Rattle.std.specs.declared.option.Option.TheVariants.{Some, None}
+use Rattle.verdicts.specs.declared.refusals.Reason.{Reason}
+use Rattle.verdicts.specs.Refused.{number as reason_number}
 use Rattle.fields.specs.declared.cursor.Sort.{Sort}
 use Rattle.fields.specs.declared.cursor.Sort.TheVariants.{Numbers, Tokens}
-use Rattle.fields.specs.declared.cursor.Opened.{Opened}
-use Rattle.fields.specs.declared.cursor.Opened.TheVariants.{At, Missing}
 use Rattle.fields.specs.Value.{Value, numbers, not_numbers, back, code, sort_kind, value_of}
 use Rattle.fields.specs.Line.{after_key, has_end, ending, open_at, key_of}
 use Rattle.fields.specs.Listed.{beyond}
@@ -32,12 +34,12 @@ use Rattle.fields.proofs.Rest.{next_rest}
 -- A list line as the byte machine has it, of any length.
 unfoldable pub said_line : List ℕ → Line → Checked (Said (List ℕ))
 said_line file (good ns at) = says (record { what = ns; rest = drop at file })
-said_line file (bad r) = fault r
+said_line file (bad r) = fault (reason_number r)
 
 -- The key.
-unfoldable pub said_opened : List ℕ → Opened → Checked (List ℕ)
-said_opened file (At c) = says (drop c file)
-said_opened file Missing = fault 3
+unfoldable pub said_opened : List ℕ → Option ℕ → Checked (List ℕ)
+said_opened file (Some c) = says (drop c file)
+said_opened file None = fault 3
 
 after_said : (file key s : List ℕ) (at : ℕ) → drop at file ≡ s → said_opened file (after_key key at s) ≡ after key s
 unfolding after_key after said_opened
@@ -55,30 +57,30 @@ pub record There {X : Type 0} (key : List ℕ) (judge : List ℕ → Checked X) 
   pub is : keyed key judge (drop at file) ≡ found line.rest (judge line.what)
 
 module _ {X : Type 0} (key : List ℕ) (judge : List ℕ → Checked X) (file : List ℕ) (at : ℕ) where
-  ending_missing : (o : Opened) → said_opened file o ≡ after key (drop at file) → ending file o ≡ Missing → keyed key judge (drop at file) ≡ fault 3
+  ending_missing : (o : Option ℕ) → said_opened file o ≡ after key (drop at file) → ending file o ≡ None → keyed key judge (drop at file) ≡ fault 3
   unfolding ending said_opened keyed ◌>>=◌
-  ending_missing Missing e h = rw (← e)
-  ending_missing (At c) e h = elim (decided (has_end (drop c file))) [
-    | inl p ↦ let w : At c ≡ Missing = rw (p, ending) at h in let z : ◌≡◌ {A = ℕ} 0 1 = cc in absurd (omega arith)
+  ending_missing None e h = rw (← e)
+  ending_missing (Some c) e h = elim (decided (has_end (drop c file))) [
+    | inl p ↦ let w : Some c ≡ None = rw (p, ending) at h in let z : ◌≡◌ {A = ℕ} 0 1 = cc in absurd (omega arith)
     | inr p ↦ rw (← e, ended_not (drop c file) p)
   ]
 
-  pub keyed_missing : open_at key file at ≡ Missing → keyed key judge (drop at file) ≡ fault 3
+  pub keyed_missing : open_at key file at ≡ None → keyed key judge (drop at file) ≡ fault 3
   keyed_missing h = ending_missing (after_key key at (drop at file)) (after_said file key (drop at file) at refl) h
 
-  ending_at : (o : Opened) (c : ℕ) → said_opened file o ≡ after key (drop at file) → ending file o ≡ At c → There key judge file at c
+  ending_at : (o : Option ℕ) (c : ℕ) → said_opened file o ≡ after key (drop at file) → ending file o ≡ Some c → There key judge file at c
   unfolding ending said_opened keyed found ◌>>=◌
-  ending_at Missing c e h = let z : ◌≡◌ {A = ℕ} 0 1 = cc in absurd (omega arith)
-  ending_at (At d) c e h = elim (decided (has_end (drop d file))) [
-    | inr p ↦ let w : Missing ≡ At c = rw (p, ending) at h in let z : ◌≡◌ {A = ℕ} 0 1 = cc in absurd (omega arith)
+  ending_at None c e h = let z : ◌≡◌ {A = ℕ} 0 1 = cc in absurd (omega arith)
+  ending_at (Some d) c e h = elim (decided (has_end (drop d file))) [
+    | inr p ↦ let w : None ≡ Some c = rw (p, ending) at h in let z : ◌≡◌ {A = ℕ} 0 1 = cc in absurd (omega arith)
     | inl p ↦
-        let w : At d ≡ At c = rw (p, ending) at h in
+        let w : Some d ≡ Some c = rw (p, ending) at h in
         let same : d ≡ c = cc in
         let (l, f) = ended_has (drop d file) p in
         rw (← same) (record { line = l; ends = f; is = rw (← e, f) })
   ]
 
-  pub keyed_at : (c : ℕ) → open_at key file at ≡ At c → There key judge file at c
+  pub keyed_at : (c : ℕ) → open_at key file at ≡ Some c → There key judge file at c
   keyed_at c h = ending_at (after_key key at (drop at file)) c (after_said file key (drop at file) at refl) h
 
 -- The entries of a value, as the machine reads them; an empty value has none where it may be empty.
@@ -115,7 +117,7 @@ each_some f value h = let i = entries_sound value in headed_some f f (entries va
 -- A value with a byte in it.
 line_numbers : (file : List ℕ) (sort : Sort) (empty : Bool) (x : Value) (behind : List ℕ) (j : Checked (List ℕ)) → (j ≡ says [] → ⊥)
     → said_value file x ≡ found behind j → said_line file (numbers_in sort empty x) ≡ found behind (j >>= in_range sort)
-unfolding said_value found numbers_in said_line ◌>>=◌
+unfolding said_value found numbers_in said_line reason_number ◌>>=◌
 line_numbers file sort empty not_numbers behind (fault n) h e = e
 line_numbers file sort empty not_numbers behind (says ns) h e = absurd (silent e)
 line_numbers file sort empty (numbers ns at) behind (fault n) h e = absurd (silent (sym e))
@@ -157,7 +159,7 @@ value_found file (b ∷ s) y at l k d e = elim (decided (eqb b 10)) [
 module _ (file : List ℕ) (sort : Sort) where
   value_line : (empty : Bool) (value behind : List ℕ) (x : Value) → said_value file x ≡ found behind (values_of (sort_kind sort) true value)
       → said_line file (numbers_in sort empty x) ≡ found behind (ranged sort empty value)
-  unfolding said_value said_line numbers_in ranged values_of values each entries read_on in_range beyond found ◌unless◌ ◌>>◌ ◌>>=◌
+  unfolding said_value said_line reason_number numbers_in ranged values_of values each entries read_on in_range beyond found ◌unless◌ ◌>>◌ ◌>>=◌
   value_line empty [] behind not_numbers e = absurd (silent e)
   value_line true [] behind (numbers [] at) e = cc
   value_line false [] behind (numbers [] at) e = refl
@@ -173,11 +175,11 @@ module _ (file : List ℕ) (sort : Sort) where
   same_kind (Numbers f m) = refl
   same_kind (Tokens s) = refl
 
-  opened_said : (r : Row) (at : ℕ) (o : Opened) → open_at (key_of r) file at ≡ o
+  opened_said : (r : Row) (at : ℕ) (o : Option ℕ) → open_at (key_of r) file at ≡ o
       → said_line file (line_in sort r.empty file o) ≡ keyed (key_of r) (ranged sort r.empty) (drop at file)
-  unfolding line_in said_line
-  opened_said r at Missing p = sym (keyed_missing (key_of r) (ranged sort r.empty) file at p)
-  opened_said r at (At c) p =
+  unfolding line_in said_line reason_number
+  opened_said r at None p = sym (keyed_missing (key_of r) (ranged sort r.empty) file at p)
+  opened_said r at (Some c) p =
       let t = keyed_at (key_of r) (ranged sort r.empty) file at c p in
       let v = value_found file (drop c file) (sort_kind sort) c t.line (same_kind sort) refl t.ends in
       value_line r.empty t.line.what t.line.rest _ v ∙ sym t.is
@@ -208,8 +210,8 @@ values_numbers_of true [] = refl
 values_numbers_of true (b ∷ bs) = values_numbers (b ∷ bs)
 
 -- A further check of a line.
-unfoldable pub checking : (List ℕ → ℕ) → List ℕ → Checked (List ℕ)
-checking k ns = elim (eqb (k ns) 0) [ true ↦ says ns | false ↦ fault (k ns) ]
+unfoldable pub checking : (List ℕ → Option Reason) → List ℕ → Checked (List ℕ)
+checking k ns = elim (k ns) [ None ↦ says ns | Some r ↦ fault (reason_number r) ]
 
 -- Go on with what a line said.
 unfoldable pub onward : {X Y : Type 0} → (X → Checked Y) → Said X → Checked (Said Y)
@@ -236,15 +238,16 @@ pub judge_more : {X Y : Type 0} (key : List ℕ) (judge : List ℕ → Checked X
 unfolding keyed found
 judge_more key judge next bs = key_more judge next (after key bs)
 
-said_checked : (file : List ℕ) (k : List ℕ → ℕ) (l : Line) → said_line file (checked k l) ≡ (said_line file l >>= onward (checking k))
+said_checked : (file : List ℕ) (k : List ℕ → Option Reason) (l : Line) → said_line file (checked k l) ≡ (said_line file l >>= onward (checking k))
 unfolding said_line checked checking onward found ◌>>=◌
 said_checked file k (bad r) = refl
-said_checked file k (good ns at) = elim (decided (eqb (k ns) 0)) [
-  | inl p ↦ rw (p, checked, checking)
-  | inr p ↦ rw (p, checked, checking)
-]
+said_checked file k (good ns at) = go (k ns) refl
+  where
+    go : (t : Option Reason) → k ns ≡ t → said_line file (checked k (good ns at)) ≡ (said_line file (good ns at) >>= onward (checking k))
+    go None p = rw (p, checked, checking)
+    go (Some r) p = rw (p, checked, checking)
 
-pub checked_said : (file : List ℕ) (sort : Sort) (r : Row) (k : List ℕ → ℕ) (at : ℕ)
+pub checked_said : (file : List ℕ) (sort : Sort) (r : Row) (k : List ℕ → Option Reason) (at : ℕ)
     → said_line file (checked k (entry_line sort r file at)) ≡ keyed (key_of r) (λ value. ranged sort r.empty value >>= checking k) (drop at file)
 checked_said file sort r k at =
     said_checked file k _

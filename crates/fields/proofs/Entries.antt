@@ -4,7 +4,6 @@ use mathlib.Core.Bool.{Bool, true, false, ◌&&◌, and-false}
 use mathlib.Core.Logic.{inl, inr}
 use mathlib.Core.List.{List, [], ◌∷◌}
 use Prim.Native.Nat.{ℕ, zero, suc, ◌+◌, ◌*◌, ◌-◌}
-use native.Mathlib.Omega.{arith}
 use borrow.Author.Tests.{eqb-true}
 use lib.Dec.{eqb}
 use lib.ListN.{drop}
@@ -59,7 +58,7 @@ back_back (suc y) = refl
 -- A value that ends in LF has an end.
 pub ended_has : (s : List ℕ) → has_end s ≡ true → (l : (Said (List ℕ))) × (ended s ≡ says l)
 unfolding has_end ended ◌>>=◌
-ended_has [] h = let z : ◌≡◌ {A = ℕ} 0 1 = cc in absurd (omega arith)
+ended_has [] h = cc
 ended_has (b ∷ s) h = elim (decided (eqb b 10)) [
   | inl p ↦ (record { what = []; rest = s }, rw (p, ended))
   | inr p ↦ let (l, e) = ended_has s (rw (p, has_end) at h) in (record { what = b ∷ l.what; rest = l.rest }, rw (p, ended) (rw e))
@@ -69,7 +68,7 @@ pub ended_not : (s : List ℕ) → has_end s ≡ false → ended s ≡ fault 3
 unfolding has_end ended ◌>>=◌
 ended_not [] h = refl
 ended_not (b ∷ s) h = elim (decided (eqb b 10)) [
-  | inl p ↦ let w : true ≡ false = rw (p, has_end) at h in let z : ◌≡◌ {A = ℕ} 0 1 = cc in absurd (omega arith)
+  | inl p ↦ let w : true ≡ false = rw (p, has_end) at h in cc
   | inr p ↦ rw (p, ended) (rw (ended_not s (rw (p, has_end) at h)))
 ]
 
@@ -140,7 +139,7 @@ no_x : (y b c : ℕ) → b ≡ c → eqb c 120 ≡ false → (eqb y 1 && eqb b 1
 no_x y b c e h = ap (λ k. eqb y 1 && eqb k 120) e ∙ (rw h (and-false (eqb y 1)))
 
 both_x : (y : ℕ) (t : Bool) → (eqb y 1 && t) ≡ true → back y ≡ 1
-both_x zero t h = let z : ◌≡◌ {A = ℕ} 0 1 = cc in absurd (omega arith)
+both_x zero t h = cc
 both_x (suc y) t h = refl
 
 one_headed : (k g : List ℕ → Checked ℕ) (w : ℕ) (behind : List ℕ) → k [] ≡ says w → says (record { what = w ∷ []; rest = behind }) ≡ found behind (headed k g ([] ∷ []))

@@ -1,27 +1,26 @@
 -- A line fixes what the code answers: two answers that a contract allows are equal, zeros included.
 use mathlib.Core.Path.{◌≡◌, sym, ap, ◌∙◌}
-use mathlib.Core.Bool.{Bool}
 use mathlib.Core.List.{List}
 use Prim.Native.Nat.{ℕ, ◌≤◌}
 use native.Mathlib.Omega.{arith}
-use lib.ListN.{length, drop, take, get_or, length-drop}
+use lib.ListN.{length, drop, length-drop}
 use lib.Seq.{length-take-le}
+use Rattle.std.specs.declared.result.Result.{Result}
+use Rattle.std.specs.declared.result.Result.TheVariants.{Ok, Err}
 use Rattle.theory.specs.Automaton.{Transition}
-use Rattle.paper.specs.Certificate.{Kind}
+use Rattle.paper.specs.Certificate.{Kind as PaperKind}
 use Rattle.paper.specs.Format.{Reading, refused, gave}
+use Rattle.verdicts.specs.declared.refusals.Refusal.{Refusal}
+use Rattle.verdicts.specs.Refused.{number, reason_of}
+use Rattle.verdicts.proofs.Told.{reason_back}
+use Rattle.fields.specs.declared.rows.Kind.{Kind}
 use Rattle.fields.specs.declared.cursor.Cursor.{Cursor}
-use Rattle.fields.specs.declared.cursor.Field.{Field}
-use Rattle.fields.specs.declared.cursor.Field.TheVariants.{Read, Refused}
 use Rattle.fields.specs.declared.lists.Items.{Items}
-use Rattle.fields.specs.declared.lists.Listed.{Listed}
-use Rattle.fields.specs.declared.lists.Listed.TheVariants.{Got, Refused as NotListed}
 use Rattle.fields.specs.declared.arrows.Trans.{Trans}
-use Rattle.fields.specs.declared.arrows.Arrow.{Arrow}
-use Rattle.fields.specs.declared.arrows.Arrow.TheVariants.{Read as ArrowRead, Refused as ArrowRefused}
 use Rattle.fields.specs.Listed.{ascending}
 use Rattle.fields.specs.Padded.{padded}
 use Rattle.fields.proofs.Whole.{padded_length}
-use Rattle.fields.specs.Said.{Placed, said_field, said_listed, said_items, places, moved, said_arrow, PlacedField, FieldLine, WholeList, WholeListed, Listing, WholeArrow, ArrowLine}
+use Rattle.fields.specs.Said.{Placed, said_by, Whole, Answer, FieldLine, WholeList, said_items, Listing, places, moved, Unused, ArrowLine}
 
 -- A place in the file is known by its line's number and by what stands from it on.
 pub same_place : (file : List ℕ) (c d : Cursor) → c.at ≤ length file → d.at ≤ length file → c.line ≡ d.line → drop c.at file ≡ drop d.at file → c ≡ d
@@ -40,44 +39,51 @@ same_gave file x y c d p q e =
 
 -- A refusal is no reading.
 pub not_both : {X : Type 0} (n line next : ℕ) (x : X) (rest : List ℕ) → refused n line ≡ gave x next rest → ⊥
-not_both n line next x rest e = let z : ◌≡◌ {A = ℕ} 0 1 = cc in omega arith
+not_both n line next x rest e = cc
+
+-- Two refusals by one number on one line.
+pub same_refused : {X : Type 0} (line : ℕ) (r s : Refusal) → ◌≡◌ {A = Reading X} (refused (number r.reason) line) (refused (number s.reason) line) → r.line ≡ s.line → r ≡ s
+same_refused line r s e l =
+    let n : number r.reason ≡ number s.reason = cc in
+    let p : r.reason ≡ s.reason = sym (reason_back r.reason) ∙ ap reason_of n ∙ reason_back s.reason in
+    λ i. record { reason = p i; line = l i }
+
+-- Where what is read is known by what it says, so is the answer.
+pub one_answer : {A X : Type 0} (say : A → X) (P : A → Type 0) → ((x y : A) → P x → P y → say x ≡ say y → x ≡ y)
+    → (file : List ℕ) (line : ℕ) (reading : Reading X) (r s : Result (A × Cursor) Refusal)
+    → Answer say P file line reading r → Answer say P file line reading s → r ≡ s
+one_answer {A} {X} say P known file line reading r s p q = go r s (p.said ∙ sym q.said) p.whole q.whole
+  where
+    go : (r s : Result (A × Cursor) Refusal) → said_by say file line r ≡ said_by say file line s → Whole P file line r → Whole P file line s → r ≡ s
+    go (Ok (x, c)) (Ok (y, d)) e v w =
+        unfold said_by Whole in
+        (let (h, place) = same_gave file (say x) (say y) c d v.1 w.1 e in
+        ap (λ (z : A). Ok (z, c)) (known x y v.0 w.0 h) ∙ ap (λ (z : Cursor). Ok (y, z)) place)
+    go (Ok (x, c)) (Err s) e v w = unfold said_by in cc
+    go (Err r) (Ok (y, d)) e v w = unfold said_by in cc
+    go (Err r) (Err s) e v w = unfold said_by Whole in (ap Err (same_refused line r s e (v ∙ sym w)))
 
 -- One number.
-pub one_field : (file : List ℕ) (K : Kind) (c : Cursor) (f g : Field) → FieldLine file K c f → FieldLine file K c g → f ≡ g
-one_field file K c f g p q = go f g (p.said ∙ sym q.said) p.placed q.placed
-  where
-    go : (f g : Field) → said_field file c.line f ≡ said_field file c.line g → PlacedField file f → PlacedField file g → f ≡ g
-    go (Read v d) (Read w e) h a b =
-        unfold said_field PlacedField in (let (x, y) = same_gave file v w d e a b h in ap (λ (n : ℕ). Read n d) x ∙ ap (Read w) y)
-    go (Read v d) (Refused r) h a b = unfold said_field in (absurd (not_both _ _ _ _ _ (sym h)))
-    go (Refused r) (Read v d) h a b = unfold said_field in (absurd (not_both _ _ _ _ _ h))
-    go (Refused r) (Refused s) h a b = unfold said_field in (let x : r ≡ s = cc in ap Refused x)
+pub one_field : (file : List ℕ) (K : PaperKind) (c : Cursor) (f g : Result (ℕ × Cursor) Refusal) → FieldLine file K c f → FieldLine file K c g → f ≡ g
+one_field file K c = one_answer (λ (v : ℕ). v) (λ v. Unit {0}) (λ x y a b e. e) file c.line _
 
 -- A list of numbers.
-module _ (file : List ℕ) (m line : ℕ) (xs ys : List ℕ) where
-  whole_length : (n : ℕ) (a : Bool) (c : Cursor) (zs : List ℕ) → WholeList file m zs n a c → length (take n zs) ≡ n
-  whole_length n a c zs w = length-take-le n zs (omega (arith, w.few, ap length w.behind, padded_length 64 (take n zs)))
+same_items : (m : ℕ) (x y : Items) → WholeList m x → WholeList m y → said_items x ≡ said_items y → x ≡ y
+same_items m x y v w e =
+    let items : x.items ≡ y.items = v.behind ∙ ap (padded 64) e ∙ sym w.behind in
+    let count : x.count ≡ y.count = sym (length_is x v) ∙ ap length e ∙ length_is y w in
+    let flag : x.ascending ≡ y.ascending = v.order ∙ ap ascending e ∙ sym w.order in
+    λ i. record { items = items i; count = count i; ascending = flag i }
+  where
+    length_is : (z : Items) → WholeList m z → length (said_items z) ≡ z.count
+    length_is z w = length-take-le z.count z.items (omega (arith, w.few, ap length w.behind, padded_length 64 (said_items z)))
 
-  one_answer : (k l : Listed) → said_listed file xs line k ≡ said_listed file ys line l → WholeListed file m xs k → WholeListed file m ys l → (k ≡ l) × (xs ≡ ys)
-  unfolding said_listed WholeListed
-  one_answer (Got n a c) (Got i b d) e v w =
-      let (x, place) = same_gave file (take n xs) (take i ys) c d v.placed w.placed e in
-      let many : n ≡ i = sym (whole_length n a c xs v) ∙ ap length x ∙ whole_length i b d ys w in
-      let flag : a ≡ b = v.order ∙ ap ascending x ∙ sym w.order in
-      (ap (λ j. Got j a c) many ∙ ap (λ f. Got i f c) flag ∙ ap (Got i b) place, v.behind ∙ ap (padded 64) x ∙ sym w.behind)
-  one_answer (Got n a c) (NotListed r) e v w = absurd (not_both _ _ _ _ _ (sym e))
-  one_answer (NotListed r) (Got n a c) e v w = absurd (not_both _ _ _ _ _ e)
-  one_answer (NotListed r) (NotListed s) e v w = let x : r ≡ s = cc in (ap NotListed x, v ∙ sym w)
-
-pub one_listing : (file : List ℕ) (m line : ℕ) (reading : Reading (List ℕ)) (a b : Items) → Listing file m line reading a → Listing file m line reading b → a ≡ b
-unfolding said_items
-one_listing file m line reading a b p q =
-    let (x, y) = one_answer file m line a.items b.items a.answer b.answer (p.said ∙ sym q.said) p.whole q.whole in
-    λ i. record { answer = x i; items = y i }
+pub one_listing : (file : List ℕ) (m line : ℕ) (reading : Reading (List ℕ)) (a b : Result (Items × Cursor) Refusal)
+    → Listing file m line reading a → Listing file m line reading b → a ≡ b
+one_listing file m = one_answer said_items (WholeList m) (same_items m) file
 
 -- A transition.
-same_trans : (arities : List ℕ) (t u : Trans) → padded 3 (take (get_or arities t.symbol 0) (places t)) ≡ places t
-    → padded 3 (take (get_or arities u.symbol 0) (places u)) ≡ places u → moved arities t ≡ moved arities u → t ≡ u
+same_trans : (arities : List ℕ) (t u : Trans) → Unused arities t → Unused arities u → moved arities t ≡ moved arities u → t ≡ u
 unfolding moved
 same_trans arities t u p q e =
     let f : t.symbol ≡ u.symbol = ap (λ (m : Transition). m.symbol) e in
@@ -88,15 +94,6 @@ same_trans arities t u p q e =
     let c : t.c ≡ u.c = cc in
     λ i. record { symbol = f i; a = a i; b = b i; c = c i; target = g i }
 
-pub one_arrow : (file arities : List ℕ) (kind symbols states : ℕ) (c : Cursor) (f g : Arrow) → ArrowLine file arities kind symbols states c f
-    → ArrowLine file arities kind symbols states c g → f ≡ g
-one_arrow file arities kind symbols states c f g p q = go f g (p.said ∙ sym q.said) p.whole q.whole
-  where
-    go : (f g : Arrow) → said_arrow file arities c.line f ≡ said_arrow file arities c.line g → WholeArrow file arities f → WholeArrow file arities g → f ≡ g
-    go (ArrowRead t d) (ArrowRead u e) h a b =
-        unfold said_arrow WholeArrow in
-        (let (x, y) = same_gave file (moved arities t) (moved arities u) d e a.1 b.1 h in
-        ap (λ w. ArrowRead w d) (same_trans arities t u a.0 b.0 x) ∙ ap (ArrowRead u) y)
-    go (ArrowRead t d) (ArrowRefused r) h a b = unfold said_arrow in (absurd (not_both _ _ _ _ _ (sym h)))
-    go (ArrowRefused r) (ArrowRead t d) h a b = unfold said_arrow in (absurd (not_both _ _ _ _ _ h))
-    go (ArrowRefused r) (ArrowRefused s) h a b = unfold said_arrow in (let x : r ≡ s = cc in ap ArrowRefused x)
+pub one_arrow : (file arities : List ℕ) (kind : Kind) (states : ℕ) (c : Cursor) (f g : Result (Trans × Cursor) Refusal)
+    → ArrowLine file arities kind states c f → ArrowLine file arities kind states c g → f ≡ g
+one_arrow file arities kind states c = one_answer (moved arities) (Unused arities) (same_trans arities) file c.line _

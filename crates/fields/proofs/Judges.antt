@@ -5,16 +5,20 @@ use mathlib.Core.Logic.{inl, inr}
 use mathlib.Core.List.{List, [], ◌∷◌, drop_last}
 use Prim.Native.Nat.{ℕ, suc, ◌+◌, ◌-◌, ◌≤◌, ◌<◌, max}
 use native.Mathlib.Omega.{arith}
-use borrow.Author.Tests.{ne_eqb, eqb-true, eqb-false, leb-true, leb-false, le-leb, lt-leb, ltb-true, ltb-false, lt-ltb, le-ltb}
+use borrow.Author.Tests.{eqb-true, eqb-false, leb-true, leb-false, le-leb, lt-leb, ltb-true, ltb-false, lt-ltb, le-ltb}
 use lib.Dec.{eqb, leb, ltb}
-use lib.ListN.{length, take, get_or}
-use lib.Seq.{get_or-take}
+use lib.ListN.{length, get_or}
 use Rattle.theory.specs.Automaton.{◌of◌gives◌}
 use Rattle.paper.specs.Checked.{Checked, fault, says, ◌>>=◌, ◌>>◌, ◌unless◌}
 use Rattle.paper.specs.Fields.{all}
 use Rattle.paper.specs.Certificate.{Kind, row, Arities, Merge}
 use Rattle.paper.specs.Tables.{within, number_list, arity_list, ascending as paper_ascending, final_list, last_of, transition_of, from_numbers, transition, numbered as paper_numbered, class_list}
 use Rattle.paper.proofs.Smallest.{decided}
+use Rattle.std.specs.declared.option.Option.{Option}
+use Rattle.std.specs.declared.option.Option.TheVariants.{Some, None}
+use Rattle.verdicts.specs.declared.refusals.Reason.{Reason}
+use Rattle.verdicts.specs.declared.refusals.Reason.TheVariants.{WrongCount, Unordered, Misnumbered}
+use Rattle.verdicts.specs.Refused.{number as reason_number}
 use Rattle.fields.specs.declared.cursor.Sort.{Sort}
 use Rattle.fields.specs.declared.cursor.Sort.TheVariants.{Numbers}
 use Rattle.fields.specs.Value.{sort_kind}
@@ -68,14 +72,14 @@ list_judge K value h =
     (bind_same (values_of 0 (row K).empty value) _ _ (λ ns. ap (λ b. 5 unless b >> says ns) (none_beyond _ (within K) (most_test (within K) (row K).greatest (λ n. within_zero K n h)) ns)))
 
 -- A check that passes or fails.
-module _ (k : List ℕ → ℕ) (ns : List ℕ) where
-  pub check_passes : k ns ≡ 0 → checking k ns ≡ says ns
+module _ (k : List ℕ → Option Reason) (ns : List ℕ) where
+  pub check_passes : k ns ≡ None → checking k ns ≡ says ns
   unfolding checking
   check_passes h = rw (h, checking)
 
-  pub check_fails : (r : ℕ) → k ns ≡ suc r → checking k ns ≡ fault (suc r)
+  pub check_fails : (r : Reason) → k ns ≡ Some r → checking k ns ≡ fault (reason_number r)
   unfolding checking
-  check_fails r h = rw (ne_eqb (k ns) 0 (λ e. omega arith), checking) (ap fault h)
+  check_fails r h = rw (h, checking)
 
 pub arities_judge : (value : List ℕ) → (ranged (Numbers 3 3) false value >>= checking (few_check 64)) ≡ arity_list value
 unfolding arity_list row
@@ -84,7 +88,7 @@ arities_judge value = rw (list_judge Arities value refl) (bind_same (ranged (Num
     count : (ns : List ℕ) → checking (few_check 64) ns ≡ (6 unless leb (length ns) 64 >> says ns)
     count ns = elim (decided (leb (length ns) 64)) [
       | inl p ↦ unfold ◌unless◌ ◌>>◌ in (rw p (check_passes (few_check 64) ns (few_ok 64 ns (leb-true (length ns) 64 p))))
-      | inr p ↦ unfold ◌unless◌ ◌>>◌ in (rw p (check_fails (few_check 64) ns 5 (few_not 64 ns (leb-false (length ns) 64 p))))
+      | inr p ↦ unfold ◌unless◌ ◌>>◌ reason_number in (rw p (check_fails (few_check 64) ns WrongCount (few_not 64 ns (leb-false (length ns) 64 p))))
     ]
 
 -- `merge`.
@@ -109,10 +113,10 @@ merge_judge n value = rw (list_judge Merge value refl) (bind_same (ranged (Numbe
   where
     test : (cs : List ℕ) → checking (merge_check n) cs ≡ (6 unless eqb (length cs) n >> (11 unless paper_numbered 0 cs >> says cs))
     test cs = elim (decided (eqb (length cs) n)) [
-      | inr p ↦ unfold ◌unless◌ ◌>>◌ in (rw p (check_fails (merge_check n) cs 5 (merge_count n cs (eqb-false (length cs) n p))))
+      | inr p ↦ unfold ◌unless◌ ◌>>◌ reason_number in (rw p (check_fails (merge_check n) cs WrongCount (merge_count n cs (eqb-false (length cs) n p))))
       | inl p ↦ elim (decided (numbered 0 cs)) [
         | inl q ↦ unfold ◌unless◌ ◌>>◌ in (rw (p, ← same_numbered 0 cs, q) (check_passes (merge_check n) cs (merge_ok n cs (eqb-true (length cs) n p) q)))
-        | inr q ↦ unfold ◌unless◌ ◌>>◌ in (rw (p, ← same_numbered 0 cs, q) (check_fails (merge_check n) cs 10 (merge_not n cs (eqb-true (length cs) n p) q)))
+        | inr q ↦ unfold ◌unless◌ ◌>>◌ reason_number in (rw (p, ← same_numbered 0 cs, q) (check_fails (merge_check n) cs Misnumbered (merge_not n cs (eqb-true (length cs) n p) q)))
       ]
     ]
 
@@ -141,10 +145,10 @@ below_flip n q h = elim (decided (ltb q n)) [
 ]
 
 final_check_lem : (ns : List ℕ) → checking final_check ns ≡ (7 unless paper_ascending 0 ns >> says ns)
-unfolding ◌unless◌ ◌>>◌
+unfolding ◌unless◌ ◌>>◌ reason_number
 final_check_lem ns = elim (decided (ascending ns)) [
   | inl p ↦ rw (← same_ascending ns, p) (check_passes final_check ns (final_ok ns p))
-  | inr p ↦ rw (← same_ascending ns, p) (check_fails final_check ns 6 (final_not ns p))
+  | inr p ↦ rw (← same_ascending ns, p) (check_fails final_check ns Unordered (final_not ns p))
 ]
 
 final_test : (ns : List ℕ) (t : List ℕ → Bool) (a b c : Bool) → t ns ≡ b → (t ns ≡ true → a ≡ true) → t ns ≡ not c
@@ -179,50 +183,52 @@ shape arities f (q ∷ r ∷ s ∷ []) e h = let p : get_or arities f 0 ≡ 2 = 
 shape arities f (q ∷ r ∷ s ∷ t ∷ []) e h = let p : get_or arities f 0 ≡ 3 = omega arith in rw p
 shape arities f (q ∷ r ∷ s ∷ t ∷ u ∷ qs) e h = absurd (omega arith)
 
-module _ (arities : List ℕ) (S n : ℕ) (few : length (take S arities) ≡ S) (low : (k : ℕ) → get_or arities k 0 ≤ 3) (one_symbol : 1 ≤ S) (one_state : 1 ≤ n) where
+module _ (arities : List ℕ) (n : ℕ) (low : (k : ℕ) → get_or arities k 0 ≤ 3) (one_symbol : 1 ≤ length arities) (one_state : 1 ≤ n) where
   sort : Sort
-  sort = Numbers (S - 1) (n - 1)
+  sort = Numbers (length arities - 1) (n - 1)
 
-  trans_range : (f : ℕ) (qs : List ℕ) → not (beyond sort (f ∷ qs)) ≡ (ltb f (length (take S arities)) && all qs (λ q. ltb q n))
+  trans_range : (f : ℕ) (qs : List ℕ) → not (beyond sort (f ∷ qs)) ≡ (ltb f (length arities) && all qs (λ q. ltb q n))
   unfolding beyond exceeds sort
   trans_range f qs =
-      not-or (ltb (S - 1) f) (any_over sort qs)
-      ∙ rw (few, flip (S - 1) f, ← below_flip S f one_symbol, ← none_over sort (λ q. ltb q n) (λ q. below_flip n q one_state ∙ sym (flip (n - 1) q)) qs)
+      not-or (ltb (length arities - 1) f) (any_over sort qs)
+      ∙ rw (
+        flip (length arities - 1) f,
+        ← below_flip (length arities) f one_symbol,
+        ← none_over sort (λ q. ltb q n) (λ q. below_flip n q one_state ∙ sym (flip (n - 1) q)) qs,
+      )
 
-  trans_test : (f : ℕ) (qs : List ℕ) → ltb f (length (take S arities)) ≡ true
+  trans_test : (f : ℕ) (qs : List ℕ)
       → (checking (trans_check arities) (f ∷ qs) >>= (λ ns. says (moved arities (trans_of ns))))
-      ≡ (6 unless eqb (length qs) (get_or (take S arities) f 0 + 1) >> says (f of drop_last qs gives last_of qs))
-  unfolding ◌unless◌ ◌>>◌ ◌>>=◌
-  trans_test f qs l =
-      let listed : f < S = omega (arith, ltb-true f (length (take S arities)) l) in
-      let arity = get_or-take S arities f 0 listed in
+      ≡ (6 unless eqb (length qs) (get_or arities f 0 + 1) >> says (f of drop_last qs gives last_of qs))
+  unfolding ◌unless◌ ◌>>◌ ◌>>=◌ reason_number
+  trans_test f qs =
       elim (decided (eqb (length qs) (get_or arities f 0 + 1))) [
         | inl p ↦
             let count = eqb-true (length qs) (get_or arities f 0 + 1) p in
-            rw (arity, p, check_passes (trans_check arities) (f ∷ qs) (trans_ok arities (f ∷ qs) (omega arith))) (ap says (shape arities f qs count (low f)))
+            rw (p, check_passes (trans_check arities) (f ∷ qs) (trans_ok arities (f ∷ qs) (omega arith))) (ap says (shape arities f qs count (low f)))
         | inr p ↦
             let count = eqb-false (length qs) (get_or arities f 0 + 1) p in
-            rw (arity, p, check_fails (trans_check arities) (f ∷ qs) 5 (trans_not arities (f ∷ qs) (λ e. count (omega arith))))
+            rw (p, check_fails (trans_check arities) (f ∷ qs) WrongCount (trans_not arities (f ∷ qs) (λ e. count (omega arith))))
       ]
 
   trans_line : (ns : List ℕ) → (ns ≡ [] → ⊥)
-      → ((in_range sort ns >>= checking (trans_check arities)) >>= (λ ns. says (moved arities (trans_of ns)))) ≡ from_numbers (take S arities) n ns
+      → ((in_range sort ns >>= checking (trans_check arities)) >>= (λ ns. says (moved arities (trans_of ns)))) ≡ from_numbers arities n ns
   trans_line [] h = absurd (h refl)
   trans_line (f ∷ qs) h =
-      unfold from_numbers transition_of in_range in (rw (trans_range f qs) (go (ltb f (length (take S arities))) (all qs (λ q. ltb q n)) refl))
+      unfold from_numbers transition_of in_range in (rw (trans_range f qs) (go (ltb f (length arities) && all qs (λ q. ltb q n))))
     where
-      go : (a b : Bool) → ltb f (length (take S arities)) ≡ a
-          → (((5 unless (a && b) >> says (f ∷ qs)) >>= checking (trans_check arities)) >>= (λ ns. says (moved arities (trans_of ns))))
-          ≡ (5 unless (a && b) >> (6 unless eqb (length qs) (get_or (take S arities) f 0 + 1) >> says (f of drop_last qs gives last_of qs)))
-      go true true e = unfold ◌unless◌ ◌>>◌ ◌>>=◌ in (trans_test f qs e)
-      go true false e = unfold ◌unless◌ ◌>>◌ ◌>>=◌ in refl
-      go false b e = unfold ◌unless◌ ◌>>◌ ◌>>=◌ in refl
+      go : (a : Bool)
+          → (((5 unless a >> says (f ∷ qs)) >>= checking (trans_check arities)) >>= (λ ns. says (moved arities (trans_of ns))))
+          ≡ (5 unless a >> (6 unless eqb (length qs) (get_or arities f 0 + 1) >> says (f of drop_last qs gives last_of qs)))
+      go true = unfold ◌unless◌ ◌>>◌ ◌>>=◌ in (trans_test f qs)
+      go false = unfold ◌unless◌ ◌>>◌ ◌>>=◌ in refl
 
   pub trans_judge : (value : List ℕ)
-      → ((ranged (Numbers (S - 1) (n - 1)) false value >>= checking (trans_check arities)) >>= (λ ns. says (moved arities (trans_of ns)))) ≡ transition (take S arities) n value
+      → ((ranged (Numbers (length arities - 1) (n - 1)) false value >>= checking (trans_check arities)) >>= (λ ns. says (moved arities (trans_of ns))))
+      ≡ transition arities n value
   unfolding transition ranged values_of sort_kind sort
   trans_judge value =
       ap (λ (j : Checked (List ℕ)). j >>= (λ ns. says (moved arities (trans_of ns)))) (bind_bind (values 0 value) (in_range sort) (checking (trans_check arities)))
       ∙ bind_bind (values 0 value) (λ ns. in_range sort ns >>= checking (trans_check arities)) (λ ns. says (moved arities (trans_of ns)))
       ∙ bind_said (values 0 value) _ _ (λ ns e. trans_line ns (λ z. values_some 0 value (e ∙ ap says z)))
-      ∙ ap (λ (j : Checked (List ℕ)). j >>= from_numbers (take S arities) n) (values_numbers value)
+      ∙ ap (λ (j : Checked (List ℕ)). j >>= from_numbers arities n) (values_numbers value)

@@ -18,5 +18,4 @@ pub mod TransLaws
 pub mod Judges
 pub mod Fixed
 pub mod SaidLaws
-pub mod RowLaws
 pub mod OneLaws

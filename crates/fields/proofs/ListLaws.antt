@@ -5,16 +5,22 @@ use mathlib.Core.List.{List, [], ◌∷◌}
 use Prim.Native.Nat.{ℕ, suc, ◌+◌, ◌≤◌, ◌<◌}
 use native.Mathlib.Numerals.{add-one}
 use native.Mathlib.Omega.{arith}
-use borrow.Author.Tests.{ne_eqb, lt-ltb, le-ltb}
+use borrow.Author.Tests.{ne_eqb, lt-ltb}
 use lib.Dec.{ltb}
 use lib.ListN.{length, drop, get_or, set, replicate, length-set}
-use Rattle.fields.specs.declared.cursor.Taken.TheVariants.{Read, Fault}
+use Rattle.std.specs.declared.option.Option.TheVariants.{None}
+use Rattle.std.specs.declared.result.Result.{Result}
+use Rattle.std.specs.declared.result.Result.TheVariants.{Err}
+use Rattle.verdicts.specs.declared.refusals.Reason.{Reason}
+use Rattle.verdicts.specs.declared.refusals.Reason.TheVariants.{NoValue}
+use Rattle.fields.specs.declared.cursor.Cursor.{Cursor}
 use Rattle.fields.specs.declared.cursor.Sort.{Sort}
 use Rattle.fields.specs.declared.cursor.Sort.TheVariants.{Numbers, Tokens}
 use Rattle.fields.specs.declared.lists.Seen.{Seen}
 use Rattle.fields.specs.declared.lists.Items.{Items}
+use Rattle.fields.specs.Number.{read}
 use Rattle.fields.specs.Value.{Value, numbers, not_numbers, with_first, entry_at, entries_from, value_of, sort_kind}
-use Rattle.fields.specs.Listed.{refused_items, exceeds, Limited, any_over, beyond, above, ascending, laid, list_of, seen_none, seen_with, kept, done}
+use Rattle.fields.specs.Listed.{exceeds, Limited, any_over, beyond, above, ascending, laid, listed, list_of, seen_none, seen_with, kept, done}
 use Rattle.fields.proofs.ValueLaws.{entries_read, entries_fault, after_end, after_lf, after_comma, after_other, value_lf, value_end, value_entries}
 use Rattle.fields.proofs.TellLaws.{limited_most, all_within}
 
@@ -28,8 +34,8 @@ kept_all items i [] = items
 kept_all items i (v ∷ ns) = kept_all (kept items i v) (suc i) ns
 
 -- what is handed over for a value, after what was seen
-pub finish : (line : ℕ) → Sort → Seen → List ℕ → Value → Items
-finish line sort s items not_numbers = refused_items 4
+pub finish : (line : ℕ) → Sort → Seen → List ℕ → Value → Result (Items × Cursor) Reason
+finish line sort s items not_numbers = Err NoValue
 finish line sort s items (numbers ns at) = done (seen_all sort s ns) (kept_all items s.count ns) (record { at = at; line = line + 1 })
 
 kind_most : (sort : Sort) → sort_kind sort ≤ 1
@@ -40,16 +46,16 @@ kind_most (Tokens s) = omega arith
 module _ (line : ℕ) (sort : Sort) (s : Seen) (items : List ℕ) where
   first_then : (v : ℕ) (x : Value) → finish line sort s items (with_first v x) ≡ finish line sort (seen_with sort s v) (kept items s.count v) x
   unfolding finish seen_all kept_all
-  first_then v (numbers ns at) = unfold seen_with in (rw add-one)
+  first_then v (numbers ns at) = unfold seen_with in (rw (add-one s.count))
   first_then v not_numbers = refl
 
   module _ (file : List ℕ) (at : ℕ) where
-    pub turn_fault : entry_at (sort_kind sort) at (drop at file) ≡ Fault → finish line sort s items (entries_from (sort_kind sort) 0 0 at (drop at file)) ≡ refused_items 4
+    pub turn_fault : entry_at (sort_kind sort) at (drop at file) ≡ None → finish line sort s items (entries_from (sort_kind sort) 0 0 at (drop at file)) ≡ Err NoValue
     unfolding finish
     turn_fault e = ap (finish line sort s items) (entries_fault (sort_kind sort) (kind_most sort) file at e)
 
-    module _ (v end : ℕ) (e : entry_at (sort_kind sort) at (drop at file) ≡ Read v end) where
-      pub turn_end : length file ≤ end → finish line sort s items (entries_from (sort_kind sort) 0 0 at (drop at file)) ≡ refused_items 4
+    module _ (v end : ℕ) (e : entry_at (sort_kind sort) at (drop at file) ≡ read v end) where
+      pub turn_end : length file ≤ end → finish line sort s items (entries_from (sort_kind sort) 0 0 at (drop at file)) ≡ Err NoValue
       unfolding finish
       turn_end h = ap (finish line sort s items) (entries_read (sort_kind sort) (kind_most sort) file at v end e ∙ after_end (sort_kind sort) file end v h)
 
@@ -67,7 +73,7 @@ module _ (line : ℕ) (sort : Sort) (s : Seen) (items : List ℕ) where
           ∙ first_then v _
 
       pub turn_other : end < length file → (get_or file end 0 ≡ 10 → ⊥) → (get_or file end 0 ≡ 44 → ⊥)
-          → finish line sort s items (entries_from (sort_kind sort) 0 0 at (drop at file)) ≡ refused_items 4
+          → finish line sort s items (entries_from (sort_kind sort) 0 0 at (drop at file)) ≡ Err NoValue
       unfolding finish
       turn_other h l k = ap (finish line sort s items) (entries_read (sort_kind sort) (kind_most sort) file at v end e ∙ after_other (sort_kind sort) file end v h l k)
 
@@ -148,7 +154,7 @@ keep_laid (v ∷ ns) (z ∷ zs) h =
     rw (kept_byte z zs v (omega (arith, h 0))) (keep_tail v zs 0 ns ∙ ap (λ (l : List ℕ). v ∷ l) (keep_laid ns zs (λ i. h (suc i))))
 
 pub finish_is : (line : ℕ) (sort : Sort) → Limited sort → (x : Value) → finish line sort seen_none (replicate 64 0) x ≡ list_of line sort x
-unfolding finish list_of done seen_none
+unfolding finish list_of listed done seen_none
 finish_is line sort l not_numbers = refl
 finish_is line sort l (numbers ns at) = go (beyond sort ns) refl
   where
@@ -160,13 +166,13 @@ finish_is line sort l (numbers ns at) = go (beyond sort ns) refl
 
 -- The whole value.
 module _ (line : ℕ) (sort : Sort) (file : List ℕ) (at : ℕ) where
-  pub list_end : length file ≤ at → list_of line sort (value_of (sort_kind sort) at (drop at file)) ≡ refused_items 4
+  pub list_end : length file ≤ at → list_of line sort (value_of (sort_kind sort) at (drop at file)) ≡ Err NoValue
   unfolding list_of
   list_end h = ap (list_of line sort) (value_end (sort_kind sort) file at h)
 
   pub list_empty : at < length file → get_or file at 0 ≡ 10
       → list_of line sort (value_of (sort_kind sort) at (drop at file)) ≡ done seen_none (replicate 64 0) (record { at = at + 1; line = line + 1 })
-  unfolding list_of done seen_none beyond ascending laid
+  unfolding list_of listed done seen_none beyond ascending laid
   list_empty h e = ap (list_of line sort) (value_lf (sort_kind sort) file at h e)
 
   pub list_entries : at < length file → (get_or file at 0 ≡ 10 → ⊥)
@@ -188,27 +194,3 @@ kept_length items i v = go (ltb v 256)
     go : (t : Bool) → length (cond t (set items i v) items) ≡ length items
     go true = length-set items i v
     go false = refl
-
--- An entry past its limit, by what the list is of.
-module _ (sort : Sort) (begins : Bool) (v : ℕ) where
-  module _ (first rest : ℕ) (is : sort ≡ Numbers first rest) where
-    pub past_first : begins ≡ true → exceeds sort begins v ≡ ltb first v
-    unfolding exceeds
-    past_first b = rw (is, b)
-
-    pub past_rest : begins ≡ false → exceeds sort begins v ≡ ltb rest v
-    unfolding exceeds
-    past_rest b = rw (is, b)
-
-  module _ (symbols : ℕ) (is : sort ≡ Tokens symbols) where
-    pub past_listed : v < symbols → exceeds sort begins v ≡ false
-    unfolding exceeds
-    past_listed h = rw (is, lt-ltb v symbols h)
-
-    pub past_symbol : symbols ≤ v → v < 64 → exceeds sort begins v ≡ true
-    unfolding exceeds
-    past_symbol h l = rw (is, le-ltb v symbols h, lt-ltb v 64 l)
-
-    pub past_variable : symbols ≤ v → 64 ≤ v → exceeds sort begins v ≡ ltb 67 v
-    unfolding exceeds
-    past_variable h l = rw (is, le-ltb v symbols h, le-ltb v 64 l)

@@ -1,15 +1,15 @@
 -- A line by its key's bytes is paper's line, whatever its value is judged to be: what it says, on its line.
 use mathlib.Core.Path.{◌≡◌, refl, sym, ap}
-use mathlib.Core.List.{List, [], ◌∷◌, ◌++◌, map}
-use Prim.Native.Nat.{ℕ, zero, suc, ◌<◌}
-use native.Mathlib.Omega.{arith}
-use lib.ListN.{length, get_or}
+use mathlib.Core.List.{List, ◌++◌}
+use Prim.Native.Nat.{ℕ}
 use Rattle.paper.specs.Bytes.{bytes}
 use Rattle.paper.specs.Checked.{Checked, says, ◌>>=◌}
 use Rattle.paper.specs.Lines.{Said, after, ended, take_line, checked_line}
-use Rattle.paper.specs.Certificate.{Kind, Budget, Row, row}
+use Rattle.paper.specs.Certificate.{Row, row}
 use Rattle.paper.specs.Format.{at_line, line_of}
-use Rattle.fields.specs.Line.{key_of, kinds, kind_at, repeated, line_row}
+use Rattle.fields.specs.declared.rows.Kind.{Kind}
+use Rattle.fields.specs.declared.rows.Kind.TheVariants.{Transition, BadTransition, Left, Right}
+use Rattle.fields.specs.Line.{Fixed, key_of, kind_of, line_row}
 use Rattle.fields.proofs.Steps.{bind_bind}
 
 -- The line whose key and `=` are these bytes, with its value judged.
@@ -33,11 +33,10 @@ keyed_reads r judge line bs = ap (at_line line) (keyed_is r judge bs)
 pub keyed_same : {X : Type 0} (key : List ℕ) (f g : List ℕ → Checked X) → ((value : List ℕ) → f value ≡ g value) → (bs : List ℕ) → keyed key f bs ≡ keyed key g bs
 keyed_same key f g h bs = λ i. keyed key (λ value. h value i) bs
 
--- The ten fixed lines stand first in the table.
-front_row : (ks : List Kind) (rest : List Row) (i : ℕ) → i < length ks → get_or (map row ks ++ rest) i (row Budget) ≡ row (get_or ks i Budget)
-front_row [] rest i h = absurd (omega arith)
-front_row (k ∷ ks) rest zero h = refl
-front_row (k ∷ ks) rest (suc i) h = front_row ks rest i (omega arith)
-
-pub fixed_row : (kind : ℕ) → kind < 10 → line_row kind ≡ row (kind_at kind)
-fixed_row kind h = front_row kinds repeated kind h
+-- The row of a fixed line.
+pub fixed_row : (kind : Kind) → Fixed kind → line_row kind ≡ row (kind_of kind)
+fixed_row Transition h = elim h [ ]
+fixed_row BadTransition h = elim h [ ]
+fixed_row Left h = elim h [ ]
+fixed_row Right h = elim h [ ]
+fixed_row _ h = refl

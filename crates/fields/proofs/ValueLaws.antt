@@ -10,9 +10,10 @@ use borrow.Author.Tests.{eq-eqb, ne_eqb, eqb-true, eqb-false}
 use lib.Dec.{eqb}
 use lib.ListN.{length, drop, get_or, length-drop}
 use Rattle.paper.proofs.Smallest.{decided}
+use Rattle.std.specs.declared.option.Option.{Option}
+use Rattle.std.specs.declared.option.Option.TheVariants.{Some as Got, None}
 use Rattle.fields.specs.declared.cursor.Taken.{Taken}
-use Rattle.fields.specs.declared.cursor.Taken.TheVariants.{Read, Fault}
-use Rattle.fields.specs.Number.{is_digit, full, ended, number_from}
+use Rattle.fields.specs.Number.{is_digit, full, read, ended, number_from}
 use Rattle.fields.specs.Value.{Value, numbers, not_numbers, with_first, code, back, coded, entry_at, entries_from, value_of, value_at}
 use Rattle.fields.specs.Line.{has_end}
 use Rattle.fields.proofs.Rest.{rest_end, rest_cons, next_rest}
@@ -26,9 +27,9 @@ after_entry y w at (b ∷ s) =
       | false ↦ elim (eqb b 44) [ true ↦ with_first w (entries_from y 0 0 (at + 1) s) | false ↦ not_numbers ]
     ]
 
-abbrev pub after : ℕ → List ℕ → Taken → Value
-after y file (Read w at) = after_entry y w at (drop at file)
-after y file Fault = not_numbers
+abbrev pub after : ℕ → List ℕ → Option Taken → Value
+after y file (Got t) = after_entry y t.value t.end (drop t.end file)
+after y file None = not_numbers
 
 -- where no `x` can come: after a digit, or not at the start of a token
 entries_number : (file s : List ℕ) (y n v at : ℕ) → (eqb n 0 && eqb y 1) ≡ false → drop at file ≡ s
@@ -52,10 +53,10 @@ entries_number file (b ∷ s) y n v at k e =
     go ih false p f q false r = rw (p, r, e, entries_from, number_from)
 
 -- a number is coded as itself
-coded_number : (x : Taken) → coded 0 x ≡ x
+coded_number : (x : Option Taken) → coded 0 x ≡ x
 unfolding coded code
-coded_number (Read v at) = refl
-coded_number Fault = refl
+coded_number (Got t) = refl
+coded_number None = refl
 
 -- a whole entry of kind 0 or 1
 pub entries_entry : (file s : List ℕ) (y at : ℕ) → y ≤ 1 → drop at file ≡ s → entries_from y 0 0 at s ≡ after y file (entry_at y at s)
@@ -138,54 +139,58 @@ value_endless (b ∷ s) y at h = elim (decided (eqb b 10)) [
 ]
   where
     never : {P : Type 0} → false ≡ true → P
-    never e = let z : ◌≡◌ {A = ℕ} 0 1 = cc in absurd (omega arith)
+    never e = cc
 
     go : (x : Value) → Some (b ∷ s) x → x ≡ not_numbers
     go not_numbers k = refl
     go (numbers [] e) k = elim k [ ]
     go (numbers (v ∷ ns) e) k = never (sym h ∙ k)
 
+-- two numbers that are the same end at one place
+same_end : (v at w e : ℕ) → read v at ≡ read w e → at ≡ e
+same_end v at w e h =
+    let p : ◌≡◌ {A = Taken} (record { value = v; end = at }) (record { value = w; end = e }) = cc in
+    ap (λ (t : Taken). t.end) p
+
 -- a number that has been read ends within s, and takes a byte at least
-end_within : (n v at w e l : ℕ) → ended n v at ≡ Read w e → (at + 1 ≤ e + n) × (e ≤ at + l)
+end_within : (n v at w e l : ℕ) → ended n v at ≡ read w e → (at + 1 ≤ e + n) × (e ≤ at + l)
 unfolding ended
 end_within n v at w e l h = go (eqb n 0) refl
   where
     go : (z : Bool) → eqb n 0 ≡ z → (at + 1 ≤ e + n) × (e ≤ at + l)
-    go true p = let q : Fault ≡ Read w e = rw p at h in let z : ◌≡◌ {A = ℕ} 0 1 = cc in absurd (omega arith)
+    go true p = let q : None ≡ read w e = rw p at h in cc
     go false p =
-        let q : Read v at ≡ Read w e = rw p at h in
-        let k : at ≡ e = cc in
+        let k = same_end v at w e (rw p at h) in
         let z = eqb-false n 0 p in
         (omega arith, omega arith)
 
-number_within : (s : List ℕ) (n v at w e : ℕ) → number_from n v at s ≡ Read w e → (at + 1 ≤ e + n) × (e ≤ at + length s)
+number_within : (s : List ℕ) (n v at w e : ℕ) → number_from n v at s ≡ read w e → (at + 1 ≤ e + n) × (e ≤ at + length s)
 unfolding number_from
 number_within [] n v at w e h = end_within n v at w e 0 h
 number_within (b ∷ s) n v at w e h = go (number_within s (n + 1) (v * 10 + (b - 48)) (at + 1) w e) (is_digit b) refl (full n v) refl
   where
-    go : (number_from (n + 1) (v * 10 + (b - 48)) (at + 1) s ≡ Read w e → (at + 1 + 1 ≤ e + (n + 1)) × (e ≤ at + 1 + length s))
+    go : (number_from (n + 1) (v * 10 + (b - 48)) (at + 1) s ≡ read w e → (at + 1 + 1 ≤ e + (n + 1)) × (e ≤ at + 1 + length s))
         → (d : Bool) → is_digit b ≡ d → (f : Bool) → full n v ≡ f → (at + 1 ≤ e + n) × (e ≤ at + suc (length s))
-    go ih true p true q = let k : Fault ≡ Read w e = rw (p, q, number_from) at h in let z : ◌≡◌ {A = ℕ} 0 1 = cc in absurd (omega arith)
+    go ih true p true q = let k : None ≡ read w e = rw (p, q, number_from) at h in cc
     go ih true p false q = let k = ih (rw (p, q, number_from) at h) in (omega arith, omega arith)
     go ih false p f q = end_within n v at w e (suc (length s)) (rw (p, number_from) at h)
 
-coded_within : (y : ℕ) (s : List ℕ) (at w e : ℕ) → coded y (number_from 0 0 at s) ≡ Read w e → (at + 1 ≤ e) × (e ≤ at + length s)
+coded_within : (y : ℕ) (s : List ℕ) (at w e : ℕ) → coded y (number_from 0 0 at s) ≡ read w e → (at + 1 ≤ e) × (e ≤ at + length s)
 coded_within y s at w e h = go (number_from 0 0 at s) refl h
   where
-    go : (x : Taken) → number_from 0 0 at s ≡ x → coded y x ≡ Read w e → (at + 1 ≤ e) × (e ≤ at + length s)
-    go (Read v d) p q =
-        let r : Read (code y v) d ≡ Read w e = unfold coded in q in
-        let z : d ≡ e = cc in
-        let k = number_within s 0 0 at v d p in
+    go : (x : Option Taken) → number_from 0 0 at s ≡ x → coded y x ≡ read w e → (at + 1 ≤ e) × (e ≤ at + length s)
+    go (Got t) p q =
+        let z = same_end (code y t.value) t.end w e (unfold coded in q) in
+        let k = number_within s 0 0 at t.value t.end p in
         (omega arith, omega arith)
-    go Fault p q =
-        let r : Fault ≡ Read w e = unfold coded in q in
-        let z : ◌≡◌ {A = ℕ} 0 1 = cc in absurd (omega arith)
+    go None p q =
+        let r : None ≡ read w e = unfold coded in q in
+        cc
 
-entry_within : (y : ℕ) (s : List ℕ) (at w e : ℕ) → entry_at y at s ≡ Read w e → (at + 1 ≤ e) × (e ≤ at + length s)
+entry_within : (y : ℕ) (s : List ℕ) (at w e : ℕ) → entry_at y at s ≡ read w e → (at + 1 ≤ e) × (e ≤ at + length s)
 unfolding entry_at
 entry_within zero s at w e h = let k = number_within s 0 0 at w e h in (omega arith, omega arith)
-entry_within (suc y) [] at w e h = let z : ◌≡◌ {A = ℕ} 0 1 = cc in absurd (omega arith)
+entry_within (suc y) [] at w e h = cc
 entry_within (suc y) (b ∷ s) at w e h = go (eqb b 120) refl
   where
     go : (t : Bool) → eqb b 120 ≡ t → (at + 1 ≤ e) × (e ≤ at + suc (length s))
@@ -194,7 +199,7 @@ entry_within (suc y) (b ∷ s) at w e h = go (eqb b 120) refl
 
 module _ (y : ℕ) (file : List ℕ) (at v : ℕ) where
   -- the place after the entry is in the file, and past `at`
-  pub read_within : at ≤ length file → (e : ℕ) → entry_at y at (drop at file) ≡ Read v e → (at < e) × (e ≤ length file)
+  pub read_within : at ≤ length file → (e : ℕ) → entry_at y at (drop at file) ≡ read v e → (at < e) × (e ≤ length file)
   read_within h e p =
       let w = entry_within y (drop at file) at v e p in
       let l = length-drop at file in
@@ -215,10 +220,10 @@ module _ (y : ℕ) (file : List ℕ) (at v : ℕ) where
 
 -- the entries from `at` on, from the one that is read there
 module _ (y : ℕ) (k : y ≤ 1) (file : List ℕ) (at : ℕ) where
-  pub entries_read : (v e : ℕ) → entry_at y at (drop at file) ≡ Read v e → entries_from y 0 0 at (drop at file) ≡ after_entry y v e (drop e file)
+  pub entries_read : (v e : ℕ) → entry_at y at (drop at file) ≡ read v e → entries_from y 0 0 at (drop at file) ≡ after_entry y v e (drop e file)
   entries_read v e h = entries_entry file _ y at k refl ∙ ap (after y file) h
 
-  pub entries_fault : entry_at y at (drop at file) ≡ Fault → entries_from y 0 0 at (drop at file) ≡ not_numbers
+  pub entries_fault : entry_at y at (drop at file) ≡ None → entries_from y 0 0 at (drop at file) ≡ not_numbers
   entries_fault h = entries_entry file _ y at k refl ∙ ap (after y file) h
 
 -- the value at `at`, from the byte there
@@ -236,11 +241,11 @@ module _ (y : ℕ) (file : List ℕ) (at : ℕ) where
   value_end h = rw (rest_end file at h)
 
 -- the value at `at`, from what reading a number there finds
-pub value_read : (file s : List ℕ) (at v e : ℕ) → drop at file ≡ s → number_from 0 0 at s ≡ Read v e → value_at at s ≡ after_entry 0 v e (drop e file)
+pub value_read : (file s : List ℕ) (at v e : ℕ) → drop at file ≡ s → number_from 0 0 at s ≡ read v e → value_at at s ≡ after_entry 0 v e (drop e file)
 unfolding number_from ended is_digit value_of entry_at
-value_read file [] at v e d h = let z : ◌≡◌ {A = ℕ} 0 1 = cc in absurd (omega arith)
+value_read file [] at v e d h = cc
 value_read file (b ∷ s) at v e d h = go (eqb b 10) refl
   where
     go : (t : Bool) → eqb b 10 ≡ t → value_at at (b ∷ s) ≡ after_entry 0 v e (drop e file)
-    go true p = let q : Fault ≡ Read v e = rw (eqb-true b 10 p) at h in let z : ◌≡◌ {A = ℕ} 0 1 = cc in absurd (omega arith)
+    go true p = let q : None ≡ read v e = rw (eqb-true b 10 p) at h in cc
     go false p = rw (p, value_of) (entries_entry file (b ∷ s) 0 at (omega arith) d ∙ ap (after 0 file) h)

@@ -7,12 +7,12 @@ use Prim.Native.Nat.{ℕ, zero, suc, ◌+◌, ◌*◌, ◌-◌, ◌≤◌, ◌<�
 use native.Mathlib.Omega.{arith}
 use lib.Dec.{eqb}
 use lib.ListN.{length, drop, get_or, replicate, length-drop}
+use Rattle.std.specs.declared.option.Option.{Option}
+use Rattle.std.specs.declared.option.Option.TheVariants.{Some, None}
 use Rattle.paper.specs.Certificate.{Row}
 use Rattle.paper.proofs.Smallest.{decided}
 use Rattle.fields.specs.declared.cursor.Cursor.{Cursor}
 use Rattle.fields.specs.declared.cursor.Sort.{Sort}
-use Rattle.fields.specs.declared.cursor.Opened.{Opened}
-use Rattle.fields.specs.declared.cursor.Opened.TheVariants.{At, Missing}
 use Rattle.fields.specs.Number.{is_digit, full}
 use Rattle.fields.specs.Value.{Value, numbers, not_numbers, with_first, back, code, sort_kind, entries_from, value_of}
 use Rattle.fields.specs.Line.{has_end, ending, open_at, key_of}
@@ -96,12 +96,12 @@ value_within y at (b ∷ s) ns next e = elim (decided (eqb b 10)) [
   | inr u ↦ entries_within (b ∷ s) y 0 0 at ns next (rw (u, value_of) at e)
 ]
 
-ending_at : (file : List ℕ) (o : Opened) (from : ℕ) → ending file o ≡ At from → o ≡ At from
+ending_at : (file : List ℕ) (o : Option ℕ) (from : ℕ) → ending file o ≡ Some from → o ≡ Some from
 unfolding ending
-ending_at file Missing from e = e
-ending_at file (At d) from e = elim (decided (has_end (drop d file))) [
+ending_at file None from e = e
+ending_at file (Some d) from e = elim (decided (has_end (drop d file))) [
   | inl p ↦ rw (p, ending) at e
-  | inr p ↦ let w : Missing ≡ At from = rw (p, ending) at e in let z : ◌≡◌ {A = ℕ} 0 1 = cc in absurd (omega arith)
+  | inr p ↦ let w : None ≡ Some from = rw (p, ending) at e in let z : ◌≡◌ {A = ℕ} 0 1 = cc in absurd (omega arith)
 ]
 
 -- The next line's place, after a list line.

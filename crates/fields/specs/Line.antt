@@ -1,18 +1,20 @@
 -- A line: its key, its value and its LF; and the table of lines.
-use Rattle.std.specs.Prelude.{◌≡◌, ℕ, ◌+◌, ◌-◌, ◌<◌, List, [], ◌∷◌, ◌++◌, map, Bool, true, false, eqb, length, drop, get_or}
+use Rattle.std.specs.Prelude.{ℕ, ◌+◌, ◌-◌, List, [], ◌∷◌, ◌++◌, Bool, true, false, eqb, drop, Option, Some, None}
 use Rattle.paper.specs.Bytes.{bytes}
 use Rattle.paper.specs.Limits.{most_symbols, most_arity, most_tokens, last_variable}
-use Rattle.paper.specs.Certificate.{Kind, row, Budget, Arities, States, Final, Trans, BadStates, BadFinal, BadTrans, Rules, Merge, Row as PaperRow, ◌from◌to◌entries◌empty◌}
+use Rattle.paper.specs.Certificate.{Kind as PaperKind, row, Row as PaperRow, ◌from◌to◌entries◌empty◌}
+use Rattle.verdicts.specs.declared.refusals.Reason.{Reason}
+use Rattle.verdicts.specs.declared.refusals.Reason.TheVariants.{NoLine, NoValue}
+use Rattle.verdicts.specs.declared.refusals.Refusal.{Refusal}
+use Rattle.fields.specs.declared.rows.Kind.{Kind}
+use Rattle.fields.specs.declared.rows.Kind.TheVariants.{Arities, States, Final, Trans, BadStates, BadFinal, BadTrans, Rules, Merge, Transition, BadTransition, Left, Right}
 use Rattle.fields.specs.declared.rows.Row.{Row}
-use Rattle.fields.specs.declared.cursor.Opened.{Opened}
-use Rattle.fields.specs.declared.cursor.Opened.TheVariants.{At, Missing}
-use Rattle.fields.specs.Padded.{padded}
 
 -- the place after the key, where s, which stands at `at`, starts with it
-unfoldable pub after_key : List ℕ → ℕ → List ℕ → Opened
-after_key [] at s = At at
-after_key (k ∷ ks) at [] = Missing
-after_key (k ∷ ks) at (b ∷ s) = elim (eqb b k) [ true ↦ after_key ks (at + 1) s | false ↦ Missing ]
+unfoldable pub after_key : List ℕ → ℕ → List ℕ → Option ℕ
+after_key [] at s = Some at
+after_key (k ∷ ks) at [] = None
+after_key (k ∷ ks) at (b ∷ s) = elim (eqb b k) [ true ↦ after_key ks (at + 1) s | false ↦ None ]
 
 -- an LF stands somewhere in s
 unfoldable pub has_end : List ℕ → Bool
@@ -20,66 +22,65 @@ has_end [] = false
 has_end (b ∷ s) = elim (eqb b 10) [ true ↦ true | false ↦ has_end s ]
 
 -- the place of the value, where the line has its key and its LF
-unfoldable pub ending : List ℕ → Opened → Opened
-ending file (At at) = elim (has_end (drop at file)) [ true ↦ At at | false ↦ Missing ]
-ending file Missing = Missing
+unfoldable pub ending : List ℕ → Option ℕ → Option ℕ
+ending file (Some at) = elim (has_end (drop at file)) [ true ↦ Some at | false ↦ None ]
+ending file None = None
 
 -- the same for the line at `at` of a file
-abbrev pub open_at : List ℕ → List ℕ → ℕ → Opened
+abbrev pub open_at : List ℕ → List ℕ → ℕ → Option ℕ
 open_at key file at = ending file (after_key key at (drop at file))
 
--- the refusal n of a value that stands at the front of s: 3 in place of 4 where there is no LF
-unfoldable pub unended : ℕ → List ℕ → ℕ
-unended n s = elim (eqb n 4) [ true ↦ elim (has_end s) [ true ↦ 4 | false ↦ 3 ] | false ↦ n ]
+-- why a value that stands at the front of s is refused: its line is missing where there is no LF, before any fault of the value's form
+unfoldable pub unended : Reason → List ℕ → Reason
+unended NoValue s = elim (has_end s) [ true ↦ NoValue | false ↦ NoLine ]
+unended r s = r
 
--- the ten fixed lines, by their number
-abbrev pub kinds : List Kind
-kinds = Budget ∷ (Arities ∷ (States ∷ (Final ∷ (Trans ∷ (BadStates ∷ (BadFinal ∷ (BadTrans ∷ (Rules ∷ (Merge ∷ [])))))))))
+-- the refusal for this reason, on this line
+abbrev pub refuse : (line : ℕ) → Reason → Refusal
+refuse line r = record { reason = r; line = Some line }
 
--- the fixed line of this number
-abbrev pub kind_at : ℕ → Kind
-kind_at kind = get_or kinds kind Budget
+-- the ten fixed lines
+abbrev pub Fixed : Kind → Type 0
+Fixed Transition = ⊥
+Fixed BadTransition = ⊥
+Fixed Left = ⊥
+Fixed Right = ⊥
+Fixed _ = Unit {0}
 
--- The lines that come as often as a count says, as rows of the same form: a transition of A or B, a left and a right side. Their numbers are
--- the largest that any certificate allows; those of tokens are the tokens' bytes.
-abbrev pub repeated : List PaperRow
-repeated =
-    ("t" from 0 to (most_symbols - 1) entries (most_arity + 2) empty false)
-    ∷ ("u" from 0 to (most_symbols - 1) entries (most_arity + 2) empty false)
-    ∷ ("l" from 0 to (64 + last_variable) entries most_tokens empty false)
-    ∷ ("r" from 0 to (64 + last_variable) entries most_tokens empty false)
-    ∷ []
+-- the fixed line of this kind
+abbrev pub kind_of : Kind → PaperKind
+kind_of Arities = PaperKind.Arities
+kind_of States = PaperKind.States
+kind_of Final = PaperKind.Final
+kind_of Trans = PaperKind.Trans
+kind_of BadStates = PaperKind.BadStates
+kind_of BadFinal = PaperKind.BadFinal
+kind_of BadTrans = PaperKind.BadTrans
+kind_of Rules = PaperKind.Rules
+kind_of Merge = PaperKind.Merge
+kind_of _ = PaperKind.Budget
 
--- the row of the line of this number
-abbrev pub line_row : ℕ → PaperRow
-line_row kind = get_or (map row kinds ++ repeated) kind (row Budget)
+-- The row of a line. Those that come as often as a count says have rows of the same form: a transition of A or B, a left and a right side. Their
+-- numbers are the largest that any certificate allows; those of tokens are the tokens' bytes.
+abbrev pub line_row : Kind → PaperRow
+line_row Transition = "t" from 0 to (most_symbols - 1) entries (most_arity + 2) empty false
+line_row BadTransition = "u" from 0 to (most_symbols - 1) entries (most_arity + 2) empty false
+line_row Left = "l" from 0 to (64 + last_variable) entries most_tokens empty false
+line_row Right = "r" from 0 to (64 + last_variable) entries most_tokens empty false
+line_row kind = row (kind_of kind)
 
 -- a line's key and `=`
 unfoldable pub key_of : PaperRow → List ℕ
 key_of r = bytes r.key ++ bytes "="
 
--- the key of the line of this number
-abbrev pub key_at : ℕ → List ℕ
+-- the key of a line of this kind
+abbrev pub key_at : Kind → List ℕ
 key_at kind = key_of (line_row kind)
 
 -- a row as the code's table has it
 unfoldable pub code_row : PaperRow → Row
-code_row r =
-    record {
-      key = padded 10 (key_of r);
-      length = length (key_of r);
-      least = r.least;
-      greatest = r.greatest;
-      entries = r.most;
-      empty = r.empty;
-    }
+code_row r = record { least = r.least; greatest = r.greatest; entries = r.most; empty = r.empty }
 
--- the row of this number
-abbrev pub row_at : ℕ → Row
+-- the row of a line of this kind
+abbrev pub row_at : Kind → Row
 row_at kind = code_row (line_row kind)
-
--- The row is one of the table.
-pub record Standing (row : Row) : Type 0 where
-  pub kind : ℕ
-  pub low : kind < 14
-  pub is : row ≡ row_at kind

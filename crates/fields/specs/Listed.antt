@@ -1,17 +1,14 @@
--- What a list's value comes to: refusal 4 or 5, or how many entries, whether they ascend, and the first 64 of them.
-use Rattle.std.specs.Prelude.{ℕ, ◌+◌, ◌≤◌, ◌<◌, List, [], ◌∷◌, Bool, true, false, ◌&&◌, ◌||◌, not, cond, eqb, ltb, length, set, replicate}
+-- What a list's value comes to: how many entries, whether they ascend, and the first 64 of them; or why it is refused.
+use Rattle.std.specs.Prelude.{ℕ, ◌+◌, ◌≤◌, ◌<◌, List, [], ◌∷◌, Bool, true, false, ◌&&◌, ◌||◌, not, cond, eqb, ltb, length, set, replicate, Result, Ok, Err}
 use Rattle.paper.specs.Limits.{most_symbols, last_variable}
+use Rattle.verdicts.specs.declared.refusals.Reason.{Reason}
+use Rattle.verdicts.specs.declared.refusals.Reason.TheVariants.{NoValue, OutOfRange}
 use Rattle.fields.specs.declared.cursor.Cursor.{Cursor}
 use Rattle.fields.specs.declared.cursor.Sort.{Sort}
 use Rattle.fields.specs.declared.cursor.Sort.TheVariants.{Numbers, Tokens}
 use Rattle.fields.specs.declared.lists.Items.{Items}
 use Rattle.fields.specs.declared.lists.Seen.{Seen}
-use Rattle.fields.specs.declared.lists.Listed.TheVariants.{Got, Refused}
 use Rattle.fields.specs.Value.{Value, numbers, not_numbers}
-
--- a refusal, with zeros beside it
-unfoldable pub refused_items : ℕ → Items
-refused_items n = record { answer = Refused n; items = replicate 64 0 }
 
 -- an entry, perhaps the first of its line, is past its limit: a number is above it; a token is neither a listed symbol nor a variable
 unfoldable pub exceeds : Sort → Bool → ℕ → Bool
@@ -49,14 +46,15 @@ laid ns [] = []
 laid [] (z ∷ zs) = z ∷ zs
 laid (v ∷ ns) (z ∷ zs) = v ∷ laid ns zs
 
--- the entries of a value on this line; 4 for a value that is not entries, 5 for one past its limit
-unfoldable pub list_of : (line : ℕ) → Sort → Value → Items
-list_of line sort not_numbers = refused_items 4
-list_of line sort (numbers ns at) =
-    elim (beyond sort ns) [
-      | true ↦ refused_items 5
-      | false ↦ record { answer = Got (length ns) (ascending ns) (record { at = at; line = line + 1 }); items = laid ns (replicate 64 0) }
-    ]
+-- the entries as they are handed over, and the line behind this one
+unfoldable pub listed : (line : ℕ) → List ℕ → (at : ℕ) → Items × Cursor
+listed line ns at =
+    (record { items = laid ns (replicate 64 0); count = length ns; ascending = ascending ns }, record { at = at; line = line + 1 })
+
+-- the entries of a value on this line
+unfoldable pub list_of : (line : ℕ) → Sort → Value → Result (Items × Cursor) Reason
+list_of line sort not_numbers = Err NoValue
+list_of line sort (numbers ns at) = elim (beyond sort ns) [ true ↦ Err OutOfRange | false ↦ Ok (listed line ns at) ]
 
 -- The same as the code goes: a state that each entry changes, and the entries beside it.
 unfoldable pub seen_none : Seen
@@ -77,9 +75,9 @@ unfoldable pub kept : List ℕ → ℕ → ℕ → List ℕ
 kept items i v = cond (ltb v 256) (set items i v) items
 
 -- what is handed over at the end of the value
-unfoldable pub done : Seen → List ℕ → Cursor → Items
+unfoldable pub done : Seen → List ℕ → Cursor → Result (Items × Cursor) Reason
 done s items next =
     elim s.over [
-      | true ↦ refused_items 5
-      | false ↦ record { answer = Got s.count s.ascending next; items = items }
+      | true ↦ Err OutOfRange
+      | false ↦ Ok (record { items = items; count = s.count; ascending = s.ascending }, next)
     ]

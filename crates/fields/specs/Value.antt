@@ -1,10 +1,9 @@
 -- The value of a line: its numbers, parted by commas and ended by LF, and the place after the LF.
-use Rattle.std.specs.Prelude.{ℕ, zero, suc, ◌+◌, ◌*◌, ◌-◌, List, [], ◌∷◌, true, false, ◌&&◌, eqb, leb, ltb}
+use Rattle.std.specs.Prelude.{ℕ, zero, suc, ◌+◌, ◌*◌, ◌-◌, List, [], ◌∷◌, true, false, ◌&&◌, cond, eqb, leb, ltb, Option, Some, None}
 use Rattle.theory.specs.Preorder.{Token, symbol, variable}
-use Rattle.fields.specs.Number.{is_digit, full, number_from}
+use Rattle.fields.specs.Number.{is_digit, full, read, number_from}
 use Rattle.paper.specs.Limits.{last_variable, most_symbols}
 use Rattle.fields.specs.declared.cursor.Taken.{Taken}
-use Rattle.fields.specs.declared.cursor.Taken.TheVariants.{Read, Fault}
 use Rattle.fields.specs.declared.cursor.Sort.{Sort}
 use Rattle.fields.specs.declared.cursor.Sort.TheVariants.{Numbers, Tokens}
 
@@ -65,12 +64,17 @@ abbrev pub value_at : ℕ → List ℕ → Value
 value_at at s = value_of 0 at s
 
 -- a number, as an entry of kind y
-unfoldable pub coded : ℕ → Taken → Taken
-coded y (Read v at) = Read (code y v) at
-coded y Fault = Fault
+unfoldable pub coded : ℕ → Option Taken → Option Taken
+coded y (Some t) = read (code y t.value) t.end
+coded y None = None
+
+-- the same by the bytes of such tokens: `count` of them, from `first` on
+unfoldable pub coded_as : (count first : ℕ) → Option Taken → Option Taken
+coded_as count first (Some t) = read (cond (ltb t.value count) (first + t.value) 255) t.end
+coded_as count first None = None
 
 -- one entry at `at`, where s stands: a number (kind 0) or a token (kind 1)
-unfoldable pub entry_at : ℕ → ℕ → List ℕ → Taken
+unfoldable pub entry_at : ℕ → ℕ → List ℕ → Option Taken
 entry_at zero at s = number_from 0 0 at s
-entry_at (suc y) at [] = Fault
+entry_at (suc y) at [] = None
 entry_at (suc y) at (b ∷ s) = elim (eqb b 120) [ true ↦ coded 2 (number_from 0 0 (at + 1) s) | false ↦ coded 1 (number_from 0 0 at (b ∷ s)) ]

@@ -1,12 +1,12 @@
 // The cursor, the numbers and tokens at a place, and a line's key and LF.
-ghost use Rattle.std.specs.Prelude.{◌≡◌, ℕ, ◌+◌, ◌*◌, ◌-◌, ◌≤◌, ◌<◌, drop, true, false};
-ghost use Rattle.fields.specs.Number.{is_digit, full, ended, number_from};
-ghost use Rattle.fields.specs.Value.{entry_at, coded, sort_kind};
-ghost use Rattle.fields.specs.Line.{after_key, has_end, key_at, row_at, Standing, unended};
+ghost use Rattle.std.specs.Prelude.{◌≡◌, ◌+◌, ◌≤◌, ◌<◌, drop};
+ghost use Rattle.fields.specs.Number.{full, ended, number_from};
+ghost use Rattle.fields.specs.Value.{entry_at, coded_as, sort_kind};
+ghost use Rattle.fields.specs.Line.{after_key, has_end, key_at, unended, refuse};
 
-use crate::rows::Row;
-use sets::index;
-use tables::{LAST_VARIABLE, SYMBOLS, VARIABLE};
+use crate::rows::Kind;
+use tables::{SYMBOLS, VARIABLE, VARIABLES};
+use verdicts::{Reason, Refusal};
 
 // How many digits a number may have.
 const DIGITS: u32 = 8;
@@ -21,25 +21,11 @@ pub struct Cursor {
     pub line: u32,
 }
 
-// A line of one number and the next line, or the refusal.
+// A number or a token inside a line, and the place behind it.
 #[derive(Clone, Copy)]
-pub enum Field {
-    Read { value: u32, next: Cursor },
-    Refused(u8),
-}
-
-// A number or a token inside a line and the place behind it, or none.
-#[derive(Clone, Copy)]
-pub enum Taken {
-    Read { value: u32, at: usize },
-    Fault,
-}
-
-// A line's key is there, and its value begins at this place; or it is not.
-#[derive(Clone, Copy)]
-pub enum Opened {
-    At(usize),
-    Missing,
+pub struct Taken {
+    pub value: u32,
+    pub end: usize,
 }
 
 // What the entries of a list are: numbers, the first at most `first` and each other at most `rest`; or tokens, over so many symbols.
@@ -49,184 +35,133 @@ pub enum Sort {
     Tokens { symbols: u32 },
 }
 
-// Whether the byte is a digit.
-pub fn is_digit(b: u8) -> bool
-    ensures { result ≡ is_digit b }
-{
-    if b < b'0' {
-        return false;
-    }
-    b <= b'9'
-}
-
 // A number of n digits and value v takes no further digit: it has eight, or it is the digit 0.
+#[tactic(auto, unfolding(crate::specs::Number::full))]
 fn is_full(n: u32, v: u32) -> bool
     ensures { result ≡ full n v }
 {
-    if DIGITS <= n {
-        return true;
-    }
-    if n == 0 {
-        return false;
-    }
-    v == 0
+    DIGITS <= n || n != 0 && v == 0
 }
 
-// The number ends here.
-fn end_number(n: u32, v: u32, at: usize) -> Taken
+// The number ends here, where it has begun.
+#[tactic(auto, unfolding(crate::specs::Number::ended))]
+fn end_number(n: u32, v: u32, at: usize) -> Option<Taken>
     ensures { result ≡ ended n v at }
 {
     if n == 0 {
-        return Taken::Fault;
+        return None;
     }
-    Taken::Read { value: v, at }
-}
-
-// A digit's value.
-fn digit_value(b: u8) -> u32
-    requires { 48 ≤ b }
-    ensures { result ≡ b - 48 }
-{
-    (b - b'0') as u32
+    Some(Taken { value: v, end: at })
 }
 
 // The number at `from`: 1 to 8 digits, with no leading zero.
-pub fn number(file: &[u8], from: usize) -> Taken
+#[tactic(auto, using(crate::proofs::NumberLaws::number_end, crate::proofs::NumberLaws::number_stop, crate::proofs::NumberLaws::number_full))]
+pub fn number(file: &[u8], from: usize) -> Option<Taken>
     ensures { result ≡ number_from 0 0 from (drop from file.now) }
 {
-    let mut at = from;
     let mut n: u32 = 0;
     let mut v: u32 = 0;
-    loop {
-        if file.len() <= at {
-            return end_number(n, v, at);
-        }
+    for at in from..file.len() {
         let b = file[at];
-        if is_digit(b) {
-            if is_full(n, v) {
-                return Taken::Fault;
-            }
-            v = v * 10 + digit_value(b);
-            n += 1;
-            at += 1;
-        } else {
+        if !b.is_ascii_digit() {
             return end_number(n, v, at);
         }
+        if is_full(n, v) {
+            return None;
+        }
+        v = v * 10 + (b - b'0') as u32;
+        n += 1;
     }
+    end_number(n, v, file.len())
 }
 
-// A symbol's number as a token's byte.
-fn code_symbol(e: Taken) -> Taken
-    ensures { result ≡ coded 1 e }
+// A token's number as its byte, where such tokens have the `count` bytes from `first` on.
+#[tactic(auto, unfolding(crate::specs::Value::coded_as))]
+fn coded_as(count: u32, first: u32, number: Option<Taken>) -> Option<Taken>
+    requires { first + count ≤ 255 }
+    ensures { result ≡ coded_as count first number }
 {
-    let Taken::Read { value, at } = e else {
-        return Taken::Fault;
+    let Taken { value, end } = number?;
+    let value = if value < count {
+        first + value
+    } else {
+        NO_TOKEN
     };
-    if value < SYMBOLS as u32 {
-        return Taken::Read { value, at };
-    }
-    Taken::Read {
-        value: NO_TOKEN,
-        at,
-    }
-}
-
-// A variable's number as a token's byte.
-fn code_variable(e: Taken) -> Taken
-    ensures { result ≡ coded 2 e }
-{
-    let Taken::Read { value, at } = e else {
-        return Taken::Fault;
-    };
-    if value <= LAST_VARIABLE as u32 {
-        return Taken::Read {
-            value: VARIABLE as u32 + value,
-            at,
-        };
-    }
-    Taken::Read {
-        value: NO_TOKEN,
-        at,
-    }
+    Some(Taken { value, end })
 }
 
 // The token at a place, as its byte.
-fn token(file: &[u8], at: usize) -> Taken
+#[tactic(auto, using(crate::proofs::TokenLaws::token_end, crate::proofs::TokenLaws::token_variable, crate::proofs::TokenLaws::token_symbol))]
+fn token(file: &[u8], at: usize) -> Option<Taken>
     ensures { result ≡ entry_at 1 at (drop at file.now) }
 {
     if file.len() <= at {
-        return Taken::Fault;
+        return None;
     }
     if file[at] == b'x' {
-        return code_variable(number(file, at + 1));
+        return coded_as(VARIABLES as u32, VARIABLE as u32, number(file, at + 1));
     }
-    code_symbol(number(file, at))
+    coded_as(SYMBOLS as u32, 0, number(file, at))
 }
 
 // The entry of a list at a place.
-pub fn entry(file: &[u8], at: usize, sort: Sort) -> Taken
+#[tactic(auto, unfolding(crate::specs::Value::entry_at, crate::specs::Value::sort_kind))]
+pub fn entry(file: &[u8], at: usize, sort: Sort) -> Option<Taken>
     ensures { result ≡ entry_at (sort_kind sort) at (drop at file.now) }
 {
     match sort {
-        Sort::Numbers { first: _, rest: _ } => number(file, at),
-        Sort::Tokens { symbols: _ } => token(file, at),
+        Sort::Numbers { .. } => number(file, at),
+        Sort::Tokens { .. } => token(file, at),
     }
 }
 
 // Whether a line ends at or after `from`.
+#[tactic(auto, using(crate::proofs::LineLaws::ends_in, crate::proofs::LineLaws::ends_not))]
 fn has_end(file: &[u8], from: usize) -> bool
     ensures { result ≡ has_end (drop from file.now) }
 {
-    let mut at = from;
-    while at < file.len() {
-        if file[at] == b'\n' {
-            return true;
-        }
-        at += 1;
-    }
-    false
+    from < file.len() && file[from..].contains(&b'\n')
 }
 
-// The refusal n of a value at `at`: 3 in place of 4 where its line has no LF.
-pub fn refusal_at(file: &[u8], at: usize, n: u8) -> u8
-    ensures { result ≡ unended n (drop at file.now) }
+// The reason why a value at `at` is refused: where its line has no LF, the line is missing, before any fault of its value's form.
+#[tactic(auto, unfolding(crate::specs::Line::unended))]
+pub fn reason_at(file: &[u8], at: usize, reason: Reason) -> Reason
+    ensures { result ≡ unended reason (drop at file.now) }
 {
-    if n != 4 {
-        return n;
+    if reason == Reason::NoValue && !has_end(file, at) {
+        return Reason::NoLine;
     }
-    if has_end(file, at) {
-        return 4;
-    }
-    3
-}
-
-// The place behind `key`, where the rest of the file starts with it.
-fn after(file: &[u8], from: usize, key: &[u8]) -> Opened
-    ensures { result ≡ after_key key.now from (drop from file.now) }
-{
-    let mut at = from;
-    let mut i = 0;
-    while i < key.len() {
-        if file.len() <= at {
-            return Opened::Missing;
-        }
-        if file[at] != key[i] {
-            return Opened::Missing;
-        }
-        at += 1;
-        i += 1;
-    }
-    Opened::At(at)
+    reason
 }
 
 impl Cursor {
-    // The place of the line's value, where the line begins with its row's key.
-    pub fn open(self, file: &[u8], row: Row) -> Opened
-        requires { Standing row }
-        ensures { (kind : ℕ) → kind < 14 → row ≡ row_at kind → result ≡ after_key (key_at kind) self.at (drop self.at file.now) }
+    // A refusal on this line.
+    pub fn refuse(self, reason: Reason) -> Refusal
+        ensures { result ≡ refuse self.line reason }
     {
-        let key = row.key;
-        let n = index(row.length);
-        after(file, self.at, &key[0..n])
+        Refusal::on_line(reason, self.line)
+    }
+
+    // The next line, which begins at `at`.
+    pub fn next(self, at: usize) -> Cursor
+        requires { self.line < u32.MAX }
+        ensures { result ≡ record { at = at; line = self.line + 1 } }
+    {
+        Cursor {
+            at,
+            line: self.line + 1,
+        }
+    }
+
+    // The place of the line's value, where the line begins with its key.
+    #[tactic(auto, using(crate::proofs::LineLaws::key_in, crate::proofs::LineLaws::key_past))]
+    pub fn open(self, file: &[u8], kind: Kind) -> Option<usize>
+        ensures { result ≡ after_key (key_at kind) self.at (drop self.at file.now) }
+    {
+        let key = kind.key();
+        if self.at <= file.len() && file[self.at..].starts_with(key) {
+            return Some(self.at + key.len());
+        }
+        None
     }
 }

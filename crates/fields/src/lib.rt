@@ -1,5 +1,5 @@
-// The fields of a certificate's lines: a cursor by value over the lent file, whose methods answer an enum with the value and the next
-// cursor, or the refusal's number.
+// The fields of a certificate's lines: a cursor by value over the lent file, whose methods answer what was read and the next cursor, or
+// the refusal.
 #![tactic(auto)]
 
 pub mod arrows;

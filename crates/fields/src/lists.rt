@@ -1,253 +1,193 @@
 // Lists of numbers or tokens, parted by commas.
-ghost use Rattle.std.specs.Prelude.{◌≡◌, ℕ, ◌+◌, ◌-◌, ◌≤◌, ◌<◌, ◌^◌, length, drop, eqb, ltb, ◌&&◌, ◌||◌, true, false};
+ghost use Rattle.std.specs.Prelude.{◌≡◌, ◌<◌, ◌^◌, length, drop};
 ghost use Rattle.fields.specs.Value.{entries_from, value_of, sort_kind};
-ghost use Rattle.fields.specs.Line.{line_row, row_at, Standing};
-ghost use Rattle.fields.specs.Lines.{items_of, entry_line};
-ghost use Rattle.fields.specs.Listed.{refused_items, exceeds as is_beyond, seen_none, seen_with, kept, done, list_of, Limited};
+ghost use Rattle.fields.specs.Line.{line_row};
+ghost use Rattle.fields.specs.Lines.{items_of, entry_line, few_check, checked};
+ghost use Rattle.fields.specs.Listed.{exceeds as is_beyond, seen_none, seen_with, kept, done, list_of, Limited};
 ghost use Rattle.fields.specs.Said.{Placed};
-ghost use Rattle.fields.specs.Trans.{refusal_in};
 
-use crate::cursor::{Cursor, Opened, Sort, Taken, entry, refusal_at};
-use crate::rows::Row;
+use crate::cursor::{Cursor, Sort, Taken, entry, reason_at};
+use crate::rows::Kind;
 use tables::{LAST_VARIABLE, VARIABLE};
+use verdicts::{Reason, Refusal};
 
 // How many entries of a list are kept; more than any line may have.
 pub const ROOM: usize = 64;
 
-// What a list's value says: how many entries, whether each is above the one before, and the next line.
-#[derive(Clone, Copy)]
-pub enum Listed {
-    Got {
-        count: usize,
-        ascending: bool,
-        next: Cursor,
-    },
-    Refused(u8),
-}
-
-// The same with the first 64 entries. An enum holds no array, so they stand beside it.
+// The entries of a list: the first 64 of them, how many there are, and whether each is above the one before.
 #[derive(Clone, Copy)]
 pub struct Items {
-    pub answer: Listed,
     pub items: [u8; ROOM],
+    pub count: usize,
+    pub ascending: bool,
 }
 
 // What is known of the entries that were read so far.
 #[derive(Clone, Copy)]
-pub struct Seen {
-    pub count: usize,
-    pub last: u32,
-    pub over: bool,
-    pub ascending: bool,
-}
-
-// A refusal, with zeros beside it.
-pub fn refused_items(n: u8) -> Items
-    ensures { result ≡ refused_items n }
-{
-    Items {
-        answer: Listed::Refused(n),
-        items: [0u8; ROOM],
-    }
-}
-
-// Nothing is read yet.
-fn seen_none() -> Seen
-    ensures { result ≡ seen_none }
-{
-    Seen {
-        count: 0,
-        last: 0,
-        over: false,
-        ascending: true,
-    }
+struct Seen {
+    count: usize,
+    last: u32,
+    over: bool,
+    ascending: bool,
 }
 
 // Whether an entry, perhaps the first of its line, is past its limit.
+#[tactic(auto, unfolding(crate::specs::Listed::exceeds))]
 fn exceeds(sort: Sort, begins: bool, value: u32) -> bool
     ensures { result ≡ is_beyond sort begins value }
 {
     match sort {
         Sort::Numbers { first, rest } => {
-            if begins {
-                return first < value;
-            }
-            rest < value
+            let most = if begins { first } else { rest };
+            most < value
         }
         Sort::Tokens { symbols } => {
-            if value < symbols {
-                return false;
-            }
-            if value < VARIABLE as u32 {
-                return true;
-            }
-            VARIABLE as u32 + (LAST_VARIABLE as u32) < value
+            symbols <= value
+                && (value < VARIABLE as u32 || VARIABLE as u32 + (LAST_VARIABLE as u32) < value)
         }
     }
 }
 
-// Whether an entry was past its limit, this one included.
-fn over_with(over: bool, sort: Sort, begins: bool, value: u32) -> bool
-    ensures { result ≡ over || is_beyond sort begins value }
-{
-    if over {
-        return true;
-    }
-    exceeds(sort, begins, value)
-}
-
-// Whether the entries ascend, this one included.
-fn ascending_with(ascending: bool, count: usize, last: u32, value: u32) -> bool
-    ensures { result ≡ ascending && (eqb count 0 || ltb last value) }
-{
-    if ascending {
-        if count == 0 {
-            return true;
+impl Seen {
+    // Nothing is read yet.
+    #[tactic(auto, unfolding(crate::specs::Listed::seen_none))]
+    fn none() -> Seen
+        ensures { result ≡ seen_none }
+    {
+        Seen {
+            count: 0,
+            last: 0,
+            over: false,
+            ascending: true,
         }
-        return last < value;
     }
-    false
-}
 
-// What is known with one more entry.
-fn seen_with(s: Seen, sort: Sort, value: u32) -> Seen
-    requires { s.count < 2 ^ 63 }
-    ensures { result ≡ seen_with sort s value }
-{
-    let count = s.count;
-    let over = over_with(s.over, sort, count == 0, value);
-    let ascending = ascending_with(s.ascending, count, s.last, value);
-    Seen {
-        count: count + 1,
-        last: value,
-        over,
-        ascending,
+    // What is known with one more entry.
+    #[tactic(auto, unfolding(crate::specs::Listed::seen_with))]
+    fn with(self, sort: Sort, value: u32) -> Seen
+        requires { self.count < 2 ^ 63 }
+        ensures { result ≡ seen_with sort self value }
+    {
+        let begins = self.count == 0;
+        Seen {
+            count: self.count + 1,
+            last: value,
+            over: self.over || exceeds(sort, begins, value),
+            ascending: self.ascending && (begins || self.last < value),
+        }
     }
 }
 
 // Keeps an entry where there is room for it and it is a byte.
+#[tactic(auto, unfolding(crate::specs::Listed::kept))]
 fn keep(items: &mut [u8; ROOM], i: usize, value: u32)
     requires { length items.old ≡ 64 }
     ensures { items.new ≡ kept items.old i value }
 {
-    if value < 256 {
-        if i < ROOM {
-            items[i] = value as u8;
-        }
+    if i < ROOM && value < 256 {
+        items[i] = value as u8;
     }
 }
 
 // What is handed over at the end of a value.
-fn finish_list(s: Seen, items: [u8; ROOM], next: Cursor) -> Items
+#[tactic(auto, unfolding(crate::specs::Listed::done))]
+fn finish_list(s: Seen, items: [u8; ROOM], next: Cursor) -> Result<(Items, Cursor), Reason>
     ensures { result ≡ done s items next }
 {
-    let over = s.over;
-    if over {
-        return refused_items(5);
+    if s.over {
+        return Err(Reason::OutOfRange);
     }
-    Items {
-        answer: Listed::Got {
-            count: s.count,
-            ascending: s.ascending,
-            next,
-        },
+    let it = Items {
         items,
-    }
+        count: s.count,
+        ascending: s.ascending,
+    };
+    Ok((it, next))
 }
 
 impl Cursor {
     // The entries of a list that has one at least, from `from` on.
-    fn entries(self, file: &[u8], from: usize, sort: Sort) -> Items
+    #[tactic(auto, using(crate::proofs::ListLaws::turn_fault, crate::proofs::ListLaws::turn_lf))]
+    fn entries(self, file: &[u8], from: usize, sort: Sort) -> Result<(Items, Cursor), Reason>
         requires placed { Placed file.now self }
         requires limited { Limited sort × (from < length file.now) }
         ensures { result ≡ list_of self.line sort (entries_from (sort_kind sort) 0 0 from (drop from file.now)) }
     {
         let mut at = from;
-        let mut seen = seen_none();
+        let mut seen = Seen::none();
         let mut items = [0u8; ROOM];
         loop {
-            let Taken::Read { value, at: end } = entry(file, at, sort) else {
-                return refused_items(4);
+            let Some(Taken { value, end }) = entry(file, at, sort) else {
+                return Err(Reason::NoValue);
             };
             keep(&mut items, seen.count, value);
-            seen = seen_with(seen, sort, value);
+            seen = seen.with(sort, value);
             if file.len() <= end {
-                return refused_items(4);
+                return Err(Reason::NoValue);
             }
             let b = file[end];
             if b == b'\n' {
-                let next = Cursor {
-                    at: end + 1,
-                    line: self.line + 1,
-                };
-                return finish_list(seen, items, next);
+                return finish_list(seen, items, self.next(end + 1));
             }
             if b != b',' {
-                return refused_items(4);
+                return Err(Reason::NoValue);
             }
             at = end + 1;
         }
     }
 
     // The value of a list, from its first byte to its LF.
-    fn list(self, file: &[u8], at: usize, sort: Sort) -> Items
+    #[tactic(auto, using(crate::proofs::ListLaws::list_end, crate::proofs::ListLaws::list_empty, crate::proofs::ListLaws::list_entries))]
+    fn list(self, file: &[u8], at: usize, sort: Sort) -> Result<(Items, Cursor), Reason>
         requires placed { Placed file.now self }
         requires limited { Limited sort }
         ensures { result ≡ list_of self.line sort (value_of (sort_kind sort) at (drop at file.now)) }
     {
         if file.len() <= at {
-            return refused_items(4);
+            return Err(Reason::NoValue);
         }
         if file[at] == b'\n' {
-            let next = Cursor {
-                at: at + 1,
-                line: self.line + 1,
-            };
-            return finish_list(seen_none(), [0u8; ROOM], next);
+            return finish_list(Seen::none(), [0u8; ROOM], self.next(at + 1));
         }
         self.entries(file, at, sort)
     }
 
     // A whole list line: its key, its value and its LF.
-    pub fn list_line(self, file: &[u8], row: Row, sort: Sort) -> Items
-        requires standing { Standing row }
-        requires placed { Placed file.now self × Limited sort }
-        ensures { (kind : ℕ) → kind < 14 → row ≡ row_at kind
-            → result ≡ items_of self.line (entry_line sort (line_row kind) file.now self.at) }
+    #[tactic(auto, using(crate::proofs::LinesLaws::whole_line), unfolding(crate::specs::Line::code_row))]
+    pub fn list_line(self, file: &[u8], kind: Kind, sort: Sort) -> Result<(Items, Cursor), Refusal>
+        requires placed { Placed file.now self }
+        requires limited { Limited sort }
+        ensures { result ≡ items_of self.line (entry_line sort (line_row kind) file.now self.at) }
     {
-        let Opened::At(at) = self.open(file, row) else {
-            return refused_items(3);
+        let Some(at) = self.open(file, kind) else {
+            return Err(self.refuse(Reason::NoLine));
         };
-        let it = self.list(file, at, sort);
-        let answer = it.answer;
-        let Listed::Got {
-            count,
-            ascending: _,
-            next: _,
-        } = answer
-        else {
-            return refused_items(refusal_at(file, at, list_refusal(answer)));
-        };
-        if 0 < count {
-            return it;
+        let (it, next) = self
+            .list(file, at, sort)
+            .map_err(|reason| self.refuse(reason_at(file, at, reason)))?;
+        if it.count == 0 && !kind.row().empty {
+            return Err(self.refuse(Reason::NoValue));
         }
-        if row.empty {
-            return it;
-        }
-        refused_items(4)
+        Ok((it, next))
     }
-}
 
-// The refusal of a list line.
-pub fn list_refusal(a: Listed) -> u8
-    ensures { result ≡ refusal_in a }
-{
-    match a {
-        Listed::Got {
-            count: _,
-            ascending: _,
-            next: _,
-        } => 0,
-        Listed::Refused(n) => n,
+    // A list line of at most as many entries as its row allows.
+    #[tactic(auto, using(crate::proofs::LinesLaws::counted_line), unfolding(crate::specs::Line::code_row))]
+    pub(crate) fn few_line(
+        self,
+        file: &[u8],
+        kind: Kind,
+        sort: Sort,
+    ) -> Result<(Items, Cursor), Refusal>
+        requires placed { Placed file.now self }
+        requires limited { Limited sort }
+        ensures { result ≡ items_of self.line
+            (checked (few_check (line_row kind).most) (entry_line sort (line_row kind) file.now self.at)) }
+    {
+        let (it, next) = self.list_line(file, kind, sort)?;
+        if (kind.row().entries as usize) < it.count {
+            return Err(self.refuse(Reason::WrongCount));
+        }
+        Ok((it, next))
     }
 }

@@ -1,177 +1,154 @@
 // The table of lines: the ten fixed ones, and the four that come as often as a count says.
-ghost use Rattle.std.specs.Prelude.{◌≡◌, ◌-◌, ◌<◌, true, false};
-ghost use Rattle.fields.specs.Line.{row_at};
+ghost use Rattle.std.specs.Prelude.{◌≡◌};
+ghost use Rattle.fields.specs.Line.{row_at, key_at};
 
-use tables::{
-    ARITY, LAST_VARIABLE, ROW, RULES as MOST_RULES, SIDE, STATES as MOST_STATES, SYMBOLS,
-    TRANSITIONS, VARIABLE,
-};
+use tables::{ARITY, LAST_VARIABLE, ROW, RULES, SIDE, STATES, SYMBOLS, TRANSITIONS, VARIABLE};
 
-// How long the longest key is, with its `=`, and how many kinds of lines there are.
-pub const KEY: usize = 10;
+// The kinds of lines, in the table's order: the fixed lines as they come, then transitions of A and of B, left sides and right sides.
+#[derive(Clone, Copy, PartialEq, Eq)]
+pub enum Kind {
+    Budget,
+    Arities,
+    States,
+    Final,
+    Trans,
+    BadStates,
+    BadFinal,
+    BadTrans,
+    Rules,
+    Merge,
+    Transition,
+    BadTransition,
+    Left,
+    Right,
+}
 
-pub const KINDS: usize = 14;
-
-// A row of the table: the line's key with its `=`, 0 behind it, and how long that is; the least and the greatest number, how many entries at
-// most, and whether none is allowed. In a line of tokens the numbers are the tokens' bytes.
+// A row of the table: the least and the greatest number, how many entries at most, and whether none is allowed. In a line of tokens the numbers are
+// the tokens' bytes.
 #[derive(Clone, Copy)]
 pub struct Row {
-    pub key: [u8; KEY],
-    pub length: u8,
-    pub empty: bool,
     pub least: u32,
     pub greatest: u32,
     pub entries: u32,
+    pub empty: bool,
 }
 
-const ROWS: [Row; KINDS] = [
+// The rows, by kind.
+const ROWS: [Row; 14] = [
     Row {
-        key: *b"budget=\0\0\0",
-        length: 7,
-        empty: false,
         least: 0,
         greatest: 33554432,
         entries: 1,
+        empty: false,
     },
     Row {
-        key: *b"arities=\0\0",
-        length: 8,
-        empty: false,
         least: 0,
         greatest: ARITY as u32,
         entries: SYMBOLS as u32,
+        empty: false,
     },
     Row {
-        key: *b"states=\0\0\0",
-        length: 7,
-        empty: false,
         least: 1,
-        greatest: MOST_STATES as u32,
+        greatest: STATES as u32,
         entries: 1,
-    },
-    Row {
-        key: *b"final=\0\0\0\0",
-        length: 6,
-        empty: true,
-        least: 0,
-        greatest: MOST_STATES as u32 - 1,
-        entries: MOST_STATES as u32,
-    },
-    Row {
-        key: *b"trans=\0\0\0\0",
-        length: 6,
         empty: false,
+    },
+    Row {
+        least: 0,
+        greatest: STATES as u32 - 1,
+        entries: STATES as u32,
+        empty: true,
+    },
+    Row {
         least: 0,
         greatest: TRANSITIONS as u32,
         entries: 1,
+        empty: false,
     },
     Row {
-        key: *b"badstates=",
-        length: 10,
-        empty: false,
         least: 1,
-        greatest: MOST_STATES as u32,
+        greatest: STATES as u32,
         entries: 1,
-    },
-    Row {
-        key: *b"badfinal=\0",
-        length: 9,
-        empty: true,
-        least: 0,
-        greatest: MOST_STATES as u32 - 1,
-        entries: MOST_STATES as u32,
-    },
-    Row {
-        key: *b"badtrans=\0",
-        length: 9,
         empty: false,
+    },
+    Row {
+        least: 0,
+        greatest: STATES as u32 - 1,
+        entries: STATES as u32,
+        empty: true,
+    },
+    Row {
         least: 0,
         greatest: TRANSITIONS as u32,
         entries: 1,
+        empty: false,
     },
     Row {
-        key: *b"rules=\0\0\0\0",
-        length: 6,
-        empty: false,
         least: 0,
-        greatest: MOST_RULES as u32,
+        greatest: RULES as u32,
         entries: 1,
+        empty: false,
     },
     Row {
-        key: *b"merge=\0\0\0\0",
-        length: 6,
-        empty: false,
         least: 0,
-        greatest: MOST_STATES as u32 - 1,
-        entries: MOST_STATES as u32,
+        greatest: STATES as u32 - 1,
+        entries: STATES as u32,
+        empty: false,
     },
     Row {
-        key: *b"t=\0\0\0\0\0\0\0\0",
-        length: 2,
-        empty: false,
         least: 0,
         greatest: SYMBOLS as u32 - 1,
         entries: ROW as u32,
+        empty: false,
     },
     Row {
-        key: *b"u=\0\0\0\0\0\0\0\0",
-        length: 2,
-        empty: false,
         least: 0,
         greatest: SYMBOLS as u32 - 1,
         entries: ROW as u32,
+        empty: false,
     },
     Row {
-        key: *b"l=\0\0\0\0\0\0\0\0",
-        length: 2,
-        empty: false,
         least: 0,
         greatest: VARIABLE as u32 + LAST_VARIABLE as u32,
         entries: SIDE as u32,
+        empty: false,
     },
     Row {
-        key: *b"r=\0\0\0\0\0\0\0\0",
-        length: 2,
-        empty: false,
         least: 0,
         greatest: VARIABLE as u32 + LAST_VARIABLE as u32,
         entries: SIDE as u32,
+        empty: false,
     },
 ];
 
-// The lines' numbers in the table.
-pub const BUDGET: usize = 0;
+impl Kind {
+    // The line's row.
+    #[tactic(auto, unfolding(crate::specs::Line::code_row, paper::specs::Certificate::row))]
+    pub fn row(self) -> Row
+        ensures { result ≡ row_at self }
+    {
+        ROWS[self as usize]
+    }
 
-pub const ARITIES: usize = 1;
-
-pub const STATES: usize = 2;
-
-pub const FINAL: usize = 3;
-
-pub const TRANS: usize = 4;
-
-pub const BAD_STATES: usize = 5;
-
-pub const BAD_FINAL: usize = 6;
-
-pub const BAD_TRANS: usize = 7;
-
-pub const RULES: usize = 8;
-
-pub const MERGE: usize = 9;
-
-pub const TRANSITION: usize = 10;
-
-pub const BAD_TRANSITION: usize = 11;
-
-pub const LEFT: usize = 12;
-
-pub const RIGHT: usize = 13;
-
-// A line's row.
-pub fn row_of(kind: usize) -> Row
-    requires { kind < 14 }
-    ensures { result ≡ row_at kind }
-{
-    ROWS[kind]
+    // The line's key with its `=`.
+    pub fn key(self) -> &'static [u8]
+        ensures { result.now ≡ key_at self }
+    {
+        match self {
+            Kind::Budget => b"budget=",
+            Kind::Arities => b"arities=",
+            Kind::States => b"states=",
+            Kind::Final => b"final=",
+            Kind::Trans => b"trans=",
+            Kind::BadStates => b"badstates=",
+            Kind::BadFinal => b"badfinal=",
+            Kind::BadTrans => b"badtrans=",
+            Kind::Rules => b"rules=",
+            Kind::Merge => b"merge=",
+            Kind::Transition => b"t=",
+            Kind::BadTransition => b"u=",
+            Kind::Left => b"l=",
+            Kind::Right => b"r=",
+        }
+    }
 }

@@ -4,23 +4,23 @@
 pub mod merged;
 pub mod suitable;
 
-ghost use Rattle.std.specs.Prelude.{◌≡◌, ◌*◌};
-ghost use Rattle.paper.specs.Meaning.{Asked};
+ghost use Rattle.std.specs.Prelude.{◌≡◌, ◌*◌, ◌≤◌};
 ghost use Rattle.paper.specs.Computed.{closure as closure_over, sharing_in, closure_in, verdict};
 ghost use Rattle.tables.specs.Held.{held, arities_of, rules_of};
 ghost use Rattle.tables.specs.Sound.{Sound};
 ghost use Rattle.verdicts.specs.Said.{said, said_sharing, Tells};
 ghost use Rattle.judge.specs.Merged.{Merged};
+ghost use Rattle.search.specs.Searched.{Searchable, searched};
 ghost use Rattle.judge.specs.Judged.{merged_of};
 
-use merged::{Rows, merged_rows};
+use merged::merged_rows;
 use search::search;
 use sets::WIDTH;
 use suitable::shared_pair;
-use tables::{Merging, TRANSITIONS, Tables};
+use tables::{Certificate, ROWS, Rules, TRANSITIONS};
 use values::{SHEETS, WORDS};
-use verdicts::{Closure, Sharing, Verdict, where_suitable};
-use woven::weave;
+use verdicts::{Closure, FinalPair, Verdict, where_suitable};
+use woven::{Automaton, weave};
 
 // For how many classes rows are made. A class takes a row in each sheet, so for few classes few are made:
 // setting them to 0 is most of what the search of a small certificate costs.
@@ -30,76 +30,97 @@ const SOME: usize = 6;
 
 const MANY: usize = 12;
 
+// The rows for so many classes.
+const FEW_ROWS: usize = SHEETS * FEW;
+
+const SOME_ROWS: usize = SHEETS * SOME;
+
+const MANY_ROWS: usize = SHEETS * MANY;
+
+const ALL_ROWS: usize = SHEETS * WIDTH;
+
 // The rows of the merged automaton.
-fn merged_of(t: Tables, m: Merging) -> Rows
-    requires { Sound t m }
-    ensures { Merged t.initial.rows m.merge (t.initial.count * 5) result.bytes }
+#[tactic(auto, using(crate::proofs::Bridge::few_initial))]
+fn merged_of(c: &Certificate) -> [u8; ROWS]
+    requires { Sound c.now.tables c.now.merging }
+    ensures { Merged c.now.tables.initial.rows c.now.merging.merge (c.now.tables.initial.count * 5) result }
 {
-    let initial = t.initial;
-    let rows = initial.rows;
-    let merge = m.merge;
-    merged_rows(&rows, &merge, initial.count)
+    let initial = &c.tables.initial;
+    merged_rows(&initial.rows, &c.merging.merge, initial.count)
+}
+
+// The search over N rows. Its own function, so that these rows alone are set to 0.
+#[inline(never)]
+fn search_over<const N: usize>(delta: Automaton, rules: &Rules, budget: u32) -> Closure
+    requires searchable { Searchable delta.arities.now rules.now }
+    requires room { (52 * delta.states ≤ N) × (N ≤ 52 * 64) }
+    ensures { Tells (searched delta.entry rules.now budget) result }
+{
+    let mut rows = [[0u64; WORDS]; N];
+    search(delta, rules, budget, &mut rows)
+}
+
+// The search over as few rows as there are sizes for.
+fn search_fitted(delta: Automaton, rules: &Rules, budget: u32) -> Closure
+    requires { Searchable delta.arities.now rules.now }
+    ensures { Tells (searched delta.entry rules.now budget) result }
+{
+    let k = delta.states;
+    if k <= FEW {
+        search_over::<FEW_ROWS>(delta, rules, budget)
+    } else if k <= SOME {
+        search_over::<SOME_ROWS>(delta, rules, budget)
+    } else if k <= MANY {
+        search_over::<MANY_ROWS>(delta, rules, budget)
+    } else {
+        search_over::<ALL_ROWS>(delta, rules, budget)
+    }
 }
 
 // The first critical pair of the merged automaton, whose rows are `merged`, within the budget.
-pub fn first_critical(t: Tables, m: Merging, merged: Rows) -> Closure
-    requires sound { Sound t m }
-    requires merged { Merged t.initial.rows m.merge (t.initial.count * 5) merged.bytes }
-    ensures { Tells (Asked.answered (closure_over (merged_of t m) (rules_of (arities_of t) t.rules) t.budget)) result }
+pub fn first_critical(c: &Certificate, merged: &[u8; ROWS]) -> Closure
+    requires sound { Sound c.now.tables c.now.merging }
+    requires merged { Merged c.now.tables.initial.rows c.now.merging.merge (c.now.tables.initial.count * 5) merged.now }
+    ensures { Tells (closure_over (merged_of c.now.tables c.now.merging) (rules_of (arities_of c.now.tables) c.now.tables.rules) c.now.tables.budget) result }
 {
-    let initial = t.initial;
-    let rules = t.rules;
-    let arities = t.arities;
-    let bytes = merged.bytes;
+    let t = &c.tables;
     let mut words = [0u64; TRANSITIONS];
-    let heads = weave(&bytes, initial.count, &mut words);
-    let k = m.classes;
-    let listed = &arities[..t.symbols];
-    if k <= FEW {
-        let mut rows = [[0u64; WORDS]; SHEETS * FEW];
-        return search(&words, &heads, listed, rules, k, t.budget, &mut rows);
-    }
-    if k <= SOME {
-        let mut rows = [[0u64; WORDS]; SHEETS * SOME];
-        return search(&words, &heads, listed, rules, k, t.budget, &mut rows);
-    }
-    if k <= MANY {
-        let mut rows = [[0u64; WORDS]; SHEETS * MANY];
-        return search(&words, &heads, listed, rules, k, t.budget, &mut rows);
-    }
-    let mut rows = [[0u64; WORDS]; SHEETS * WIDTH];
-    search(&words, &heads, listed, rules, k, t.budget, &mut rows)
+    let heads = weave(merged, t.initial.count, &mut words);
+    let delta = Automaton {
+        words: &words,
+        heads: &heads,
+        arities: &t.arities[..t.symbols],
+        states: c.merging.classes,
+    };
+    search_fitted(delta, &t.rules, t.budget)
 }
 
 // The first question, of the tables and the merging: the first final pair that shares a tree.
-pub fn sharing(t: Tables, m: Merging) -> Sharing
-    requires { Sound t m }
-    ensures { said_sharing result ≡ Asked.answered (sharing_in (held t m)) }
+#[tactic(auto, unfolding(paper::specs::Computed::sharing_in, tables::specs::Held::held))]
+pub fn sharing(c: &Certificate) -> Option<FinalPair>
+    requires { Sound c.now.tables c.now.merging }
+    ensures { said_sharing result ≡ sharing_in (held c.now.tables c.now.merging) }
 {
-    let merged = merged_of(t, m);
-    shared_pair(t, m, merged)
+    shared_pair(c, &merged_of(c))
 }
 
 // The second: the first critical pair within the budget, whether a final pair shares a tree or not.
-pub fn closure(t: Tables, m: Merging) -> Closure
-    requires { Sound t m }
-    ensures { Tells (Asked.answered (closure_in (held t m))) result }
+#[tactic(auto, unfolding(paper::specs::Computed::closure_in, tables::specs::Held::held))]
+pub fn closure(c: &Certificate) -> Closure
+    requires { Sound c.now.tables c.now.merging }
+    ensures { Tells (closure_in (held c.now.tables c.now.merging)) result }
 {
-    let merged = merged_of(t, m);
-    first_critical(t, m, merged)
+    first_critical(c, &merged_of(c))
 }
 
 // The verdict, put together from the two: the second is asked only where the first finds nothing, and the table is merged once.
-// What was read is not refused, so the last arm is never taken; it is there because the type has it, and says what the paper says.
-pub fn judge(t: Tables, m: Merging) -> Verdict
-    requires { Sound t m }
-    ensures { said result ≡ verdict (held t m) }
+pub fn judge(c: &Certificate) -> Verdict
+    requires { Sound c.now.tables c.now.merging }
+    ensures { said result ≡ verdict (held c.now.tables c.now.merging) }
 {
-    let merged = merged_of(t, m);
-    let shared = shared_pair(t, m, merged);
-    match shared {
-        Sharing::Pair { class, bad } => Verdict::Unsuitable { class, bad },
-        Sharing::Nothing => where_suitable(first_critical(t, m, merged)),
-        Sharing::Refused { number, line } => Verdict::Malformed { number, line },
+    let merged = merged_of(c);
+    match shared_pair(c, &merged) {
+        Some(pair) => Verdict::Unsuitable(pair),
+        None => where_suitable(first_critical(c, &merged)),
     }
 }

@@ -13,12 +13,13 @@ use Rattle.theory.specs.Automaton.{Automaton}
 use Rattle.theory.specs.Critical.{entry}
 use Rattle.theory.specs.Value.{is_critical}
 use Rattle.sets.specs.Sets.{Set, none, plus, less}
+use Rattle.woven.specs.Ready.{Ready}
 use Rattle.woven.specs.Woven.{woven_moves}
 use Rattle.values.specs.Lanes.{given}
 use Rattle.values.specs.Standing.{Each}
 use Rattle.values.proofs.Spanned.{each_then}
 use Rattle.lanes.specs.Prefixes.{rest, chosen}
-use Rattle.lanes.specs.Batches.{differ, Touched, Fixed, Paired, BothTouched, Judgeable, Compared, Prefix, BeforeLast, Batch}
+use Rattle.lanes.specs.Batches.{differ, Touched, Fixed, Paired, BothTouched, Compared, Prefix, BeforeLast, Batch}
 use Rattle.lanes.specs.Automaton.{woven_automaton}
 use Rattle.lanes.proofs.Coded.{critical_lane}
 use Rattle.lanes.proofs.Numbers.{rest_last}
@@ -120,7 +121,7 @@ module _ (k v : ℕ) (xs : List ℕ) {m mid after : List (List ℕ)} (many : 2 �
       ]
 
 -- What comparing the sides says of the batch's substitutions.
-module _ {arities words heads tokens : List ℕ} {k v : ℕ} {xs : List ℕ} {m mid : List (List ℕ)} (j : Judgeable arities words heads tokens k m) (few : v ≤ 4) (placed : Placed k v xs m mid)
+module _ {arities words heads : List ℕ} {k v : ℕ} {xs : List ℕ} {m mid : List (List ℕ)} (ready : Ready arities words heads k) (few : v ≤ 4) (placed : Placed k v xs m mid)
     (rule : Rule) (left : Each (λ x. x < v) rule.left) (right : Each (λ x. x < v) rule.right) where
   abbrev M : Automaton
   M = woven_automaton arities words heads k
@@ -133,14 +134,14 @@ module _ {arities words heads tokens : List ℕ} {k v : ℕ} {xs : List ℕ} {m 
       critical_lane M rule (given k mid l) (in_lane v xs l) (each_then (λ x. x < v) (Same l) (placed.exact l h) left) (each_then (λ x. x < v) (Same l) (placed.exact l h) right) q
 
   inside : (l : ℕ) → l < k ^ rest v 3 → l < k
-  inside l h = lane_class k v l j.ready.some few h
+  inside l h = lane_class k v l ready.some few h
 
-  pub batch_compared : {after : List (List ℕ)} {found : Bool} → Compared (woven_moves arities words (get_or heads 64 0)) tokens k mid after rule found
+  pub batch_compared : {tokens : List ℕ} {after : List (List ℕ)} {found : Bool} → Compared (woven_moves arities words (get_or heads 64 0)) tokens k mid after rule found
       → Batch M rule v (get_or xs 0 0) (get_or xs 1 0) (get_or xs 2 0) tokens after found
   unfolding woven_automaton
   batch_compared compared = record {
     each = λ e l h q.
-        let low : l < 512 = omega (arith, inside l h, j.ready.most) in
+        let low : l < 512 = omega (arith, inside l h, ready.most) in
         ap₂ (λ (a b : Set). less a b q) (compared.left e l low) (compared.right e l low) ∙ critical_there l (inside l h) q;
-    clear = λ e l h q hq. let low : l < 512 = omega (arith, inside l h, j.ready.most) in sym (critical_there l (inside l h) q) ∙ compared.clear e l low q hq;
+    clear = λ e l h q hq. let low : l < 512 = omega (arith, inside l h, ready.most) in sym (critical_there l (inside l h) q) ∙ compared.clear e l low q hq;
   }

@@ -24,7 +24,7 @@ use Rattle.values.proofs.Spanned.{spanned_more, each_then}
 use Rattle.values.proofs.Sheets.{sheet_symbol}
 use Rattle.lanes.specs.Batches.{Touched, Fixed, Paired, BothTouched, Alive}
 use Rattle.lanes.specs.Automaton.{woven_automaton}
-use Rattle.lanes.proofs.Stays.{given_stays, fixed_stays, touched_rows}
+use Rattle.lanes.proofs.Stays.{given_stays, fixed_stays, paired_stays, touched_rows}
 
 -- The first variables have the classes xs, the next one has the lane's number, and the later ones may have any class.
 pub record Freed (k : ℕ) (m : List (List ℕ)) (xs : List ℕ) : Type 0 where
@@ -39,7 +39,7 @@ pub freed : (k : ℕ) (m fresh after : List (List ℕ)) (xs : List ℕ) → leng
 freed k m fresh after xs few some fixed paired both free touched =
     record {
       fixed = fixed_stays k fresh after xs (λ x hx. touched_rows k fresh after (length xs + 1) 4 touched x (inl (omega arith)))
-          (fixed_stays k m fresh xs (λ x hx q hq. both.others x q (omega arith) hq (λ e. omega arith) (λ e. omega arith)) fixed);
+          (paired_stays k m fresh (length xs + 1) (length xs) xs (omega arith) (omega arith) (omega arith) both fixed);
       own = λ y hy. given_stays k fresh after (length xs) y (touched_rows k fresh after (length xs + 1) 4 touched (length xs) (inl (omega arith)))
           ∙ paired.low 0 y y (omega arith) hy hy (omega arith);
       free = free;

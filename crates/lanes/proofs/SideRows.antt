@@ -2,14 +2,17 @@
 use mathlib.Core.Path.{◌≡◌, sym, ap, ap₂, ◌∙◌}
 use mathlib.Core.Bool.{false, not, ◌&&◌}
 use mathlib.Core.List.{List, []}
-use Prim.Native.Nat.{ℕ, ◌+◌, ◌/◌, ◌%◌, ◌≤◌, ◌<◌}
+use Prim.Native.Nat.{ℕ, ◌+◌, ◌-◌, ◌/◌, ◌%◌, ◌≤◌, ◌<◌}
 use native.Mathlib.Decide.{dec_lt}
 use native.Mathlib.Omega.{arith}
 use lib.Bits.{bit_or}
-use lib.ListN.{length, get_or, set, length-set}
-use lib.Seq.{get_or-set_same, get_or-set_other}
+use lib.ListN.{length, get_or, take, drop, length-take, length-drop}
+use lib.Seq.{get_or-take}
 use borrow.Author.Count.{below_more}
 use borrow.Author.Tests.{lt-ltb, le-ltb}
+use Rattle.std.specs.List.{AllWithin, zip}
+use Rattle.std.proofs.Common.{get_or-drop}
+use Rattle.std.proofs.lemmas.Slice.Zip.{length-zip, get_or-zip}
 use Rattle.theory.proofs.Bools.{and_off, and_on, neither}
 use Rattle.sets.specs.Sets.{mem, less}
 use Rattle.sets.proofs.Laws.{mem-or}
@@ -53,22 +56,19 @@ module _ (k : ℕ) (m : List (List ℕ)) (l q : ℕ) where
   pub less_in : (b : ℕ) → q < k → less (lane k m 0 l) (lane k m b l) q ≡ (lit (get_or m q []) l && not (lit (get_or m (b + q) []) l))
   less_in b h = ap₂ (λ x y. x && not y) (left_in h) (lane_in b h)
 
-  pub less_dark : (b : ℕ) → (q < k → (lit (get_or m q []) l && not (lit (get_or m (b + q) []) l)) ≡ false) → less (lane k m 0 l) (lane k m b l) q ≡ false
-  less_dark b dark = elim (dec_lt q k) [
-    | yes h ↦ less_in b h ∙ dark h
-    | no nh ↦ and_off _ _ (lane_out 0 (omega arith))
-  ]
+-- In no row has the left side's sheet a lane that the sheet at row b has not.
+abbrev pub Beside : (k b : ℕ) → List (List ℕ) → List (List ℕ × List ℕ)
+Beside k b m = zip (take k m) (take (b + k - b) (drop b m))
 
--- A row r whose words before y are those of a without those of b.
-pub record Differs (a b r : List ℕ) (y : ℕ) : Type 0 where
-  pub long : length r ≡ 8
-  pub done : (x : ℕ) → x < y → mem (get_or r x 0) ≡ less (mem (get_or a x 0)) (mem (get_or b x 0))
-
-pub differs_none : (a b r : List ℕ) → length r ≡ 8 → Differs a b r 0
-differs_none a b r long = record { long = long; done = λ x h. absurd (omega arith) }
-
-pub differs_more : (a b r : List ℕ) (y w : ℕ) → y < 8 → mem w ≡ less (mem (get_or a y 0)) (mem (get_or b y 0)) → Differs a b r y → Differs a b (set r y w) (y + 1)
-differs_more a b r y w hy is old = record {
-  long = length-set r y w ∙ old.long;
-  done = below_more _ y (λ x h. ap mem (get_or-set_other r y x w 0 (λ s. omega arith)) ∙ old.done x h) (ap mem (get_or-set_same r y w 0 (omega (arith, old.long))) ∙ is);
-}
+pub less_dark : (k b : ℕ) (m : List (List ℕ)) → k ≤ length m → b + k ≤ length m
+    → AllWithin (λ p. (l : ℕ) → l < 512 → (lit p.0 l && not (lit p.1 l)) ≡ false) (Beside k b m) 0 (length (Beside k b m))
+    → (l q : ℕ) → l < 512 → less (lane k m 0 l) (lane k m b l) q ≡ false
+less_dark k b m left right dark l q h = elim (dec_lt q k) [
+  | yes low ↦
+      let one : q < length (take k m) = omega (arith, length-take k m) in
+      let other : q < length (take (b + k - b) (drop b m)) = omega (arith, length-take (b + k - b) (drop b m), length-drop b m) in
+      let inside : q < length (Beside k b m) = omega (arith, length-zip (take k m) (take (b + k - b) (drop b m))) in
+      let both = get_or-zip (take k m) (take (b + k - b) (drop b m)) q ([], []) one other in
+      less_in k m l q b low ∙ rw (both, get_or-take k m q [] low, get_or-take (b + k - b) (drop b m) q [] (omega arith), get_or-drop b m q []) at (dark q ([], []) (omega arith) inside l h)
+  | no past ↦ and_off _ _ (lane_out k m l q 0 (omega arith))
+]

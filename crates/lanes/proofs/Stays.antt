@@ -9,7 +9,7 @@ use native.Mathlib.Omega.{arith}
 use lib.ListN.{length, get_or}
 use Rattle.values.specs.Lanes.{given}
 use Rattle.values.proofs.Sheets.{same_lane}
-use Rattle.lanes.specs.Batches.{Touched, Fixed, Untouched, Judgeable}
+use Rattle.lanes.specs.Batches.{Touched, Fixed, BothTouched, Untouched, Judgeable}
 
 module _ (k : ℕ) (m after : List (List ℕ)) where
   -- The rows of the variable x are as they were.
@@ -23,6 +23,10 @@ module _ (k : ℕ) (m after : List (List ℕ)) where
   pub fixed_stays : (xs : List ℕ) → ((x : ℕ) → x < length xs → SameRows x) → Fixed k m xs → Fixed k after xs
   fixed_stays xs same old = record { each = λ x l hx hl. given_stays x l (same x hx) ∙ old.each x l hx hl }
 
+  -- Those of a prefix, where two variables behind it are paired.
+  pub paired_stays : (hi lo : ℕ) (xs : List ℕ) → length xs ≤ hi → length xs ≤ lo → length xs ≤ 4 → BothTouched k hi lo m after → Fixed k m xs → Fixed k after xs
+  paired_stays hi lo xs below_hi below_lo few both = fixed_stays xs (λ x hx q hq. both.others x q (omega arith) hq (λ e. omega arith) (λ e. omega arith))
+
   pub touched_rows : (first last : ℕ) → Touched k first last m after → (x : ℕ) → (x < first) ⊎ (last ≤ x) → SameRows x
   touched_rows first last t x (inl h) q hq = t.same ((48 + x) * k + q) (inl (omega (arith, mul-le-mul_right {m = suc x} {n = first} k h)))
   touched_rows first last t x (inr h) q hq = t.same ((48 + x) * k + q) (inr (omega (arith, mul-le-mul_right {m = last} {n = x} k h)))
@@ -34,9 +38,8 @@ module _ (k : ℕ) (m after : List (List ℕ)) where
   pub untouched_rows : Untouched k m after → (x : ℕ) → SameRows x
   untouched_rows u x q hq = u.same ((48 + x) * k + q) (omega arith)
 
-  pub judgeable_stays : {arities words heads tokens : List ℕ} → length after ≡ length m → Judgeable arities words heads tokens k m → Judgeable arities words heads tokens k after
+  pub judgeable_stays : {arities tokens : List ℕ} → length after ≡ length m → Judgeable arities tokens k m → Judgeable arities tokens k after
   judgeable_stays long j = record {
-    ready = j.ready;
     tokens_long = j.tokens_long;
     left = j.left;
     right = j.right;

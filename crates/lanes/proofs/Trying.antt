@@ -11,6 +11,8 @@ use lib.ListN.{length, get_or, length-append, get_or-append}
 use lib.Seq.{get_or-append_seam}
 use borrow.Author.Tests.{eq-eqb, ne_eqb}
 use Rattle.theory.specs.Term.{Term}
+use Rattle.std.specs.declared.option.Option.{Option}
+use Rattle.std.specs.declared.option.Option.TheVariants.{Some}
 use Rattle.theory.specs.Rewriting.{Rule}
 use Rattle.theory.specs.Automaton.{Transition}
 use Rattle.theory.proofs.Bools.{neither, not_both}
@@ -59,17 +61,17 @@ differ_same Δ ρ τ rule left right same q = ap₂ (λ a b. a && not b) (side l
     side each = ap (λ (s : Set). s q) (spanned_same Δ ρ τ (each_then (λ x. x < 4) (λ x. ρ x ≡ τ x) same each))
 
 -- The classes below x are tried: those of the mask `live` that are not found have no lane with a critical pair.
-pub record Trying (Δ : List Transition) (arities tokens : List ℕ) (k own live found : ℕ) (m₀ : List (List ℕ)) (near : ℕ) (m : List (List ℕ)) (ends : List ℕ) (mask x : ℕ) : Type 0 where
+pub record Trying (Δ : List Transition) (arities tokens : List ℕ) (k own live found : ℕ) (m₀ : List (List ℕ)) (near : Option ℕ) (m : List (List ℕ)) (ends : List ℕ) (mask x : ℕ) : Type 0 where
   pub upto : x ≤ k
-  pub token : near ≡ 64 + own
+  pub token : near ≡ Some (64 + own)
   pub others : Others k own m₀ m
   pub kept : Kept Δ arities tokens k near m ends
   pub more : (y : ℕ) → mem mask y ≡ false → mem found y ≡ false
   pub clear : (rule : Rule) → Spelled arities tokens rule → (y : ℕ) → y < x → mem live y ≡ true → mem mask y ≡ false → (l : ℕ) → l < 512 → (q : ℕ) → q < k
       → differ Δ (with_own k own m₀ y l) rule q ≡ false
 
-pub trying_none : (Δ : List Transition) (arities tokens : List ℕ) (k own live found : ℕ) (m₀ : List (List ℕ)) (near : ℕ) (ends : List ℕ)
-    → near ≡ 64 + own → Kept Δ arities tokens k near m₀ ends → Trying Δ arities tokens k own live found m₀ near m₀ ends found 0
+pub trying_none : (Δ : List Transition) (arities tokens : List ℕ) (k own live found : ℕ) (m₀ : List (List ℕ)) (near : Option ℕ) (ends : List ℕ)
+    → near ≡ Some (64 + own) → Kept Δ arities tokens k near m₀ ends → Trying Δ arities tokens k own live found m₀ near m₀ ends found 0
 trying_none Δ arities tokens k own live found m₀ near ends token kept = record {
   upto = omega arith;
   token = token;
@@ -79,7 +81,7 @@ trying_none Δ arities tokens k own live found m₀ near ends token kept = recor
   clear = λ rule s y hy. absurd (omega arith);
 }
 
-module _ {Δ : List Transition} {arities tokens : List ℕ} {k own live found : ℕ} {m₀ : List (List ℕ)} {near : ℕ} {m : List (List ℕ)} {ends : List ℕ} {mask x : ℕ} where
+module _ {Δ : List Transition} {arities tokens : List ℕ} {k own live found : ℕ} {m₀ : List (List ℕ)} {near : Option ℕ} {m : List (List ℕ)} {ends : List ℕ} {mask x : ℕ} where
   -- The same rows, ends and mask by other names.
   pub trying_same : {m' : List (List ℕ)} {ends' : List ℕ} {mask' : ℕ} → m' ≡ m → ends' ≡ ends → mask' ≡ mask
       → Trying Δ arities tokens k own live found m₀ near m ends mask x → Trying Δ arities tokens k own live found m₀ near m' ends' mask' x

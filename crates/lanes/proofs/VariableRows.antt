@@ -111,9 +111,6 @@ pub record Upto (k first : ℕ) (s : ℕ → Set) (m₀ m : List (List ℕ)) (x 
   pub only : Touched k first x m₀ m
 
 module _ (k first : ℕ) (s : ℕ → Set) where
-  pub upto_none : (m : List (List ℕ)) → Upto k first s m m first
-  upto_none m = record { each = λ y l from to h. absurd (omega arith); only = record { long = refl; same = λ i out. refl } }
-
   pub upto_more : (m₀ m after : List (List ℕ)) (x : ℕ) → first ≤ x → Upto k first s m₀ m x → ((l : ℕ) → l < 512 → given k after l x ≡ s x) → Touched k x (x + 1) m after
       → Upto k first s m₀ after (x + 1)
   upto_more m₀ m after x from old new only = record {

@@ -8,7 +8,7 @@ use Rattle.sets.specs.Sets.{Set, mem, none, plus, less}
 use Rattle.woven.specs.Woven.{woven_moves}
 use Rattle.values.specs.Sets.{spanned}
 use Rattle.values.specs.Lanes.{lit, lane, sheet_of, given}
-use Rattle.values.specs.Standing.{Stands, Ready}
+use Rattle.values.specs.Standing.{Stands}
 use Rattle.lanes.specs.Prefixes.{rest, chosen}
 
 -- There is room for the 52 sheets.
@@ -65,8 +65,7 @@ pub record BothTouched (k hi lo : ℕ) (m after : List (List ℕ)) : Type 0 wher
   pub others : (x q : ℕ) → x < 4 → q < k → (x ≡ hi → ⊥) → (x ≡ lo → ⊥) → get_or after ((48 + x) * k + q) [] ≡ get_or m ((48 + x) * k + q) []
 
 -- What judging a rule's two sides relies on. The left side is no bare variable, so its sheet is the first.
-pub record Judgeable (arities words heads tokens : List ℕ) (k : ℕ) (m : List (List ℕ)) : Type 0 where
-  pub ready : Ready arities words heads k
+pub record Judgeable (arities tokens : List ℕ) (k : ℕ) (m : List (List ℕ)) : Type 0 where
   pub tokens_long : length tokens ≡ 48
   pub left : Stands arities tokens 0
   pub right : Stands arities tokens 24

@@ -1,5 +1,5 @@
 -- The classes that a prefix of a rule's variables has, and what is left to choose.
-use Rattle.std.specs.Prelude.{cond, List, [], ◌∷◌, ℕ, zero, suc, ◌+◌, ◌-◌, ◌≤◌, ◌<◌, max, min, ltb, get_or}
+use Rattle.std.specs.Prelude.{cond, List, [], ◌∷◌, ℕ, zero, suc, ◌+◌, ◌-◌, ◌≤◌, ◌<◌, max, min, ltb, eqb, get_or}
 use Rattle.verdicts.specs.declared.CriticalPair.{CriticalPair}
 
 -- How many of v variables are left where the first i have their classes: the last one is always left, since all its classes are judged at once.
@@ -17,6 +17,10 @@ chosen (suc zero) x0 x1 x2 j = j ∷ []
 chosen (suc (suc zero)) x0 x1 x2 j = x0 ∷ j ∷ []
 chosen (suc (suc (suc zero))) x0 x1 x2 j = x0 ∷ x1 ∷ j ∷ []
 chosen (suc (suc (suc (suc v)))) x0 x1 x2 j = x0 ∷ x1 ∷ x2 ∷ j ∷ []
+
+-- The class that is shown of the variable i of v: its own before the last one, the lane's for the last, and 255 where there is no such variable.
+abbrev pub shown : (v i own lane : ℕ) → ℕ
+shown v i own lane = cond (ltb (i + 1) v) own (cond (eqb (i + 1) v) lane 255)
 
 -- What writing a critical pair relies on: its rule, its variables' classes and its own are small numbers.
 pub record Writable (rule v x0 x1 x2 j q : ℕ) : Type 0 where

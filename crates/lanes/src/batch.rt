@@ -2,34 +2,32 @@
 ghost use Rattle.std.specs.Prelude.{◌<◌, get_or};
 ghost use Rattle.theory.specs.Rewriting.{Rule};
 ghost use Rattle.values.specs.Standing.{Spelled, Each};
-ghost use Rattle.lanes.specs.Automaton.{woven_automaton};
+ghost use Rattle.lanes.specs.Automaton.{meant};
 ghost use Rattle.lanes.specs.Batches.{Judgeable, BeforeLast, Batch, Long};
 
-use super::sides::{NONE, compare};
+use super::sides::compare;
 use super::variables::{fix_all, pair_up};
-use tables::{RULE, TRANSITIONS};
+use tables::RULE;
 use values::WORDS;
-use woven::HEADS;
+use woven::Automaton;
 
 // Whether one of them may have a critical pair, xs being the classes of the variables before the last (as many of these as the rule has):
 // then the sheets of the sides have their values. Nothing is kept past the batch, so no variable is told apart.
 pub fn batch<'a>(
-    words: &'a [u64; TRANSITIONS],
-    heads: &'a [u8; HEADS],
-    arities: &'a [u8],
+    delta: Automaton<'a>,
     tokens: &'a [u8],
-    k: usize,
     v: usize,
     xs: &'a [u8],
     m: &mut [[u64; WORDS]],
 ) -> bool
-    requires { Judgeable arities.now words.now heads.now tokens.now k m.old × BeforeLast k v xs.now }
-    ensures { ((rule : Rule) → Spelled arities.now tokens.now rule → Each (λ x. x < v) rule.left
+    requires { Judgeable delta.arities.now tokens.now delta.states m.old × BeforeLast delta.states v xs.now }
+    ensures { ((rule : Rule) → Spelled delta.entry.arities.now tokens.now rule → Each (λ x. x < v) rule.left
         → Each (λ x. x < v) rule.right
-        → Batch (woven_automaton arities.now words.now heads.now k) rule v
+        → Batch (meant delta.entry) rule v
         (get_or xs.now 0 0) (get_or xs.now 1 0) (get_or xs.now 2 0) tokens.now m.new result)
         × Long m.old m.new }
 {
+    let k = delta.states;
     let mut ends = [0u8; RULE];
     if v < 2 {
         pair_up(m, k, 1, 0, 0, k);
@@ -38,5 +36,5 @@ pub fn batch<'a>(
         fix_all(m, k, &xs[..hi]);
         pair_up(m, k, hi, v - 1, xs[hi] as usize * k, k);
     }
-    compare(words, heads, arities, tokens, NONE, k, &mut ends, m)
+    compare(delta, tokens, None, &mut ends, m)
 }

@@ -2,29 +2,23 @@
 ghost use Rattle.std.specs.Prelude.{◌≡◌, true, false, not, ◌&&◌, ℕ, ◌+◌, ◌*◌, ◌≤◌, ◌<◌, length, get_or};
 ghost use Rattle.theory.specs.Rewriting.{Rule};
 ghost use Rattle.sets.specs.Sets.{mem, less};
-ghost use Rattle.woven.specs.Woven.{woven_moves};
+ghost use Rattle.woven.specs.Meant.{moves};
 ghost use Rattle.values.specs.Lanes.{lit, lane};
 ghost use Rattle.values.specs.Standing.{Spelled, Kept};
 ghost use Rattle.lanes.specs.Batches.{Judgeable, Compared, Inspectable, Untouched};
 
 use sets::{has, minus};
-use tables::{RULE, SIDE, TRANSITIONS};
+use tables::{RULE, SIDE};
 use values::{WORDS, sheet_of, value};
-use verdicts::NO_CLASS;
-use woven::HEADS;
+use woven::Automaton;
 
-// The token of no variable, where none is about to get another class.
-pub const NONE: u8 = NO_CLASS;
-
-// Whether no lane of a row is lit.
+// Whether no lane of a row is lit. All words are joined first, so that it becomes a few vector operations.
 fn dark(row: [u64; WORDS]) -> bool
     ensures { result ≡ true → (l : ℕ) → l < 512 → lit row l ≡ false }
 {
     let mut all = 0;
-    let mut y = 0;
-    while y < WORDS {
-        all = all | row[y];
-        y += 1;
+    for word in row {
+        all |= word;
     }
     all == 0
 }
@@ -34,15 +28,7 @@ fn left_empty(m: &[[u64; WORDS]], k: usize) -> bool
     requires { k ≤ length m.now }
     ensures { result ≡ true → (l q : ℕ) → l < 512 → lane k m.now 0 l q ≡ false }
 {
-    let mut q = 0;
-    while q < k {
-        if dark(m[q]) {
-            q += 1;
-        } else {
-            return false;
-        }
-    }
-    true
+    m[..k].iter().all(|row| dark(*row))
 }
 
 // The lanes of a that are not lit in b.
@@ -50,10 +36,8 @@ fn without(a: [u64; WORDS], b: [u64; WORDS]) -> [u64; WORDS]
     ensures { (l : ℕ) → l < 512 → lit result l ≡ (lit a l && not (lit b l)) }
 {
     let mut r = [0u64; WORDS];
-    let mut y = 0;
-    while y < WORDS {
-        r[y] = minus(a[y], b[y]);
-        y += 1;
+    for (y, word) in r.iter_mut().enumerate() {
+        *word = minus(a[y], b[y]);
     }
     r
 }
@@ -63,48 +47,35 @@ fn left_within(m: &[[u64; WORDS]], k: usize, b: usize) -> bool
     requires { (k ≤ length m.now) × (b + k ≤ length m.now) }
     ensures { result ≡ true → (l q : ℕ) → l < 512 → less (lane k m.now 0 l) (lane k m.now b l) q ≡ false }
 {
-    let mut q = 0;
-    while q < k {
-        if dark(without(m[q], m[b + q])) {
-            q += 1;
-        } else {
-            return false;
-        }
-    }
-    true
+    m[..k]
+        .iter()
+        .zip(&m[b..b + k])
+        .all(|(left, right)| dark(without(*left, *right)))
 }
 
 // Whether the left side has a class that the right side has not, in some lane. The right side is valued only where the left has a class.
 pub fn compare<'a>(
-    words: &'a [u64; TRANSITIONS],
-    heads: &'a [u8; HEADS],
-    arities: &'a [u8],
+    delta: Automaton<'a>,
     tokens: &'a [u8],
-    near: u8,
-    k: usize,
+    near: Option<u8>,
     ends: &mut [u8; RULE],
     m: &mut [[u64; WORDS]],
 ) -> bool
-    requires judgeable { Judgeable arities.now words.now heads.now tokens.now k m.old }
-    requires kept { Kept (woven_moves arities.now words.now (get_or heads.now 64 0)) arities.now tokens.now k near m.old ends.old }
-    ensures compared { (rule : Rule) → Spelled arities.now tokens.now rule
-        → Compared (woven_moves arities.now words.now (get_or heads.now 64 0)) tokens.now k
-        m.old m.new rule result }
-    ensures kept_2 { Kept (woven_moves arities.now words.now (get_or heads.now 64 0)) arities.now
-        tokens.now k near
-        m.new ends.new × Untouched k m.old m.new }
+    requires judgeable { Judgeable delta.arities.now tokens.now delta.states m.old }
+    requires kept { Kept (moves delta) delta.arities.now tokens.now delta.states near m.old ends.old }
+    ensures compared { (rule : Rule) → Spelled delta.entry.arities.now tokens.now rule
+        → Compared (moves delta.entry) tokens.now delta.entry.states m.old m.new rule result }
+    ensures kept_2 { Kept (moves delta.entry) delta.entry.arities.now tokens.now delta.entry.states near m.new ends.new
+        × Untouched delta.entry.states m.old m.new }
 {
-    value(words, heads, arities, tokens, near, k, 0, ends, m);
+    let k = delta.states;
+    value(delta, tokens, near, 0, ends, m);
     if left_empty(m, k) {
         return false;
     }
-    value(words, heads, arities, tokens, near, k, SIDE, ends, m);
+    value(delta, tokens, near, SIDE, ends, m);
     let right = sheet_of(tokens, SIDE) * k;
-    if left_within(m, k, right) {
-        false
-    } else {
-        true
-    }
+    !left_within(m, k, right)
 }
 
 // The classes j, one to each of the first 64 lanes, in whose lane the left side's sheet has a class.
@@ -113,10 +84,8 @@ pub fn left_lanes(m: &[[u64; WORDS]], k: usize) -> u64
     ensures { (j q : ℕ) → j < 64 → mem result j ≡ false → lane k m.now 0 j q ≡ false }
 {
     let mut all = 0;
-    let mut q = 0;
-    while q < k {
-        all = all | m[q][0];
-        q += 1;
+    for row in &m[..k] {
+        all |= row[0];
     }
     all
 }

@@ -14,11 +14,7 @@ fn fill(m: &mut [[u64; WORDS]], k: usize, a: usize, w: u64)
     requires { Room k m.old a }
     ensures { Full k m.new a w × Within k m.old a m.new }
 {
-    let mut q = 0;
-    while q < k {
-        m[a + q] = [w; WORDS];
-        q += 1;
-    }
+    m[a..a + k].fill([w; WORDS]);
 }
 
 // The variable x has this class in every lane.
@@ -37,10 +33,8 @@ pub fn fix_all(m: &mut [[u64; WORDS]], k: usize, xs: &[u8])
     requires { Roomy k m.old × Prefix k 4 xs.now × (k ≤ 64) }
     ensures { Fixed k m.new xs.now × Touched k 0 (length xs.now) m.old m.new }
 {
-    let mut x = 0;
-    while x < xs.len() {
-        fix(m, k, x, xs[x] as usize);
-        x += 1;
+    for (x, class) in xs.iter().enumerate() {
+        fix(m, k, x, *class as usize);
     }
 }
 
@@ -58,10 +52,8 @@ pub fn free_from(m: &mut [[u64; WORDS]], k: usize, x: usize)
     ensures { ((y l : ℕ) → x ≤ y → y < 4 → l < 512 → given k m.new l y ≡ under k)
         × Touched k x 4 m.old m.new }
 {
-    let mut y = x;
-    while y < VARIABLES {
+    for y in x..VARIABLES {
         free(m, k, y);
-        y += 1;
     }
 }
 
@@ -72,7 +64,7 @@ fn light(m: &mut [[u64; WORDS]], i: usize, l: usize)
 {
     let w = l / WIDTH;
     let bit = 1u64 << (l % WIDTH) as u64;
-    m[i][w] = m[i][w] | bit;
+    m[i][w] |= bit;
 }
 
 // The variables hi and lo have in each of the first n lanes the two digits of the lane's number to the base k, counted from `start` on,
@@ -88,8 +80,7 @@ pub fn pair_up(m: &mut [[u64; WORDS]], k: usize, hi: usize, lo: usize, start: us
     fill(m, k, low, 0);
     let mut y = start / k;
     let mut z = start % k;
-    let mut l = 0;
-    while l < n {
+    for l in 0..n {
         if y < k {
             light(m, high + y, l);
         }
@@ -99,6 +90,5 @@ pub fn pair_up(m: &mut [[u64; WORDS]], k: usize, hi: usize, lo: usize, start: us
             z = 0;
             y += 1;
         }
-        l += 1;
     }
 }

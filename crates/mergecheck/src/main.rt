@@ -1,7 +1,7 @@
-// Reads from standard input a letter that names the question (reply::ask) and a certificate, one byte more than a file may have, and prints the answer.
+// Reads from standard input a letter that names the question (reply::Question) and a certificate, one byte more than a file may have, and prints the answer.
 #![tactic(auto)]
 
-use reply::read_full;
+use reply::{Question, read_full};
 use std::io::{self, Write};
 
 fn main(rt: HostRuntime) -> io::Result<()> {
@@ -11,6 +11,6 @@ fn main(rt: HostRuntime) -> io::Result<()> {
     let mut file = [0u8; 16385];
     let n = read_full(&mut input, &mut file)?;
     let mut out = [0u8; 128];
-    let k = reply::ask(letter[0], &file[..n], &mut out);
+    let k = reply::ask(Question::from(letter[0]), &file[..n], &mut out);
     rt.stdout().write_all(&out[..k])
 }

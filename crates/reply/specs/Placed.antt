@@ -4,10 +4,18 @@ use Rattle.paper.specs.Limits.{least_buffer}
 use Rattle.paper.specs.Computed.{sharing_of, closure_of}
 use Rattle.paper.specs.Answer.{answer_of, sharing_answer, closure_answer}
 use Rattle.answer.specs.Shown.{Wrote}
+use Rattle.reply.specs.declared.Question.{Question}
+use Rattle.reply.specs.declared.Question.TheVariants.{Sharing, Closure, Verdict}
+
+-- The answer to a question.
+unfoldable pub answer_to : Question → List ℕ → List ℕ
+answer_to Sharing file = sharing_answer (sharing_of file)
+answer_to Closure file = closure_answer (closure_of file)
+answer_to Verdict file = answer_of file
 
 -- `s` asks the first question, `c` the second, and any other byte for the whole verdict.
-unfoldable pub answer_to : ℕ → List ℕ → List ℕ
-answer_to letter file = cond (eqb letter 115) (sharing_answer (sharing_of file)) (cond (eqb letter 99) (closure_answer (closure_of file)) (answer_of file))
+unfoldable pub asked_by : ℕ → Question
+asked_by letter = cond (eqb letter 115) Sharing (cond (eqb letter 99) Closure Verdict)
 
 -- `&xs[..n]` is in bounds and has n bytes.
 abbrev pub IsPrefixLen : ℕ → List ℕ → Type 0

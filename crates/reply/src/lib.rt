@@ -6,16 +6,37 @@ ghost use Rattle.std.specs.Io.{ReadsAtMost};
 ghost use Rattle.std.specs.Io.KnownBytes.{Consumes, IsAtEnd};
 ghost use Rattle.paper.specs.Computed.{sharing_of, closure_of};
 ghost use Rattle.paper.specs.Answer.{answer_of, sharing_answer, closure_answer};
-ghost use Rattle.reply.specs.Placed.{answer_to, Placed};
+ghost use Rattle.reply.specs.Placed.{answer_to, asked_by, Placed};
 
 use std::io::{self, Read};
+
+// What a program may ask: the first question, the second, or the whole verdict.
+#[derive(Clone, Copy)]
+pub enum Question {
+    Sharing,
+    Closure,
+    Verdict,
+}
+
+// `s` names the first question, `c` the second, any other byte the whole verdict.
+impl From<u8> for Question {
+    ghost from_gives = { λ letter q. q ≡ asked_by letter };
+
+    #[tactic(auto, unfolding(crate::specs::Placed::asked_by))]
+    fn from(letter: u8) -> Question {
+        match letter {
+            b's' => Question::Sharing,
+            b'c' => Question::Closure,
+            _ => Question::Verdict,
+        }
+    }
+}
 
 // Judges the file, and gives the length of the answer that then stands in the buffer.
 pub fn reply(file: &[u8], out: &mut [u8]) -> usize
     ensures { Placed (answer_of file.now) out.old result out.new }
 {
-    let a = checker::check(file, out);
-    a.length
+    checker::check(file, out).length
 }
 
 // Asks the first question.
@@ -38,17 +59,16 @@ pub fn reply_closure(file: &[u8], out: &mut [u8]) -> usize
     answer::write_closure(checker::closure(file), out)
 }
 
-// Asks what the letter names: `s` the first question, `c` the second, any other byte for the whole verdict.
-pub fn ask(letter: u8, file: &[u8], out: &mut [u8]) -> usize
-    ensures { Placed (answer_to letter file.now) out.old result out.new }
+// Asks a question.
+#[tactic(auto, unfolding(crate::specs::Placed::answer_to))]
+pub fn ask(question: Question, file: &[u8], out: &mut [u8]) -> usize
+    ensures { Placed (answer_to question file.now) out.old result out.new }
 {
-    if letter == b's' {
-        return reply_sharing(file, out);
+    match question {
+        Question::Sharing => reply_sharing(file, out),
+        Question::Closure => reply_closure(file, out),
+        Question::Verdict => reply(file, out),
     }
-    if letter == b'c' {
-        return reply_closure(file, out);
-    }
-    reply(file, out)
 }
 
 // Reads until the buffer is full or the input ends, and gives how many bytes then stand at its start.

@@ -3,7 +3,6 @@ use mathlib.Core.Path.{◌≡◌, ◌∙◌}
 use mathlib.Core.Bool.{false}
 use mathlib.Core.List.{List}
 use Prim.Native.Nat.{ℕ, ◌+◌, ◌-◌, ◌*◌, ◌^◌, ◌≤◌, ◌<◌}
-use native.Mathlib.Omega.{arith}
 use lib.ListN.{length}
 use Rattle.sets.specs.Sets.{mem}
 use Rattle.tables.specs.Held.{rules_of}
@@ -13,20 +12,11 @@ use Rattle.lanes.specs.Automaton.{woven_automaton}
 use Rattle.search.proofs.Order.{rule_in}
 use Rattle.search.proofs.Walk.{Level}
 use Rattle.search.proofs.Loops.{AtChoice, roomed}
-use Rattle.search.proofs.Turns.{sizes_low, choice_bit, next_done, passed_next}
+use Rattle.search.proofs.Turns.{choice_bit, next_done, passed_next}
 
 module _ {arities words heads : List ℕ} {rules : Rules} {k budget most size r : ℕ} {tokens : List ℕ} {v lanes passed1 passed0 m0 m1 m2 variables right leads1 : ℕ}
     {i : ℕ} {xs : List ℕ} {mask : ℕ} {m₀ m : List (List ℕ)} {start y n : ℕ}
     (at : AtChoice arities words heads rules k budget most size r tokens v lanes passed1 passed0 m0 m1 m2 variables right leads1 i xs mask m₀ m start y n) where
-  pub within_budget : n ≤ most
-  within_budget = omega (arith, at.level.within, at.ruled.is_most)
-
-  -- Counting a class that is passed over does not wrap.
-  pub count_fits : (n + passed1 < 2 ^ 64) × (n + passed0 < 2 ^ 64)
-  count_fits =
-      let low = sizes_low at.ruled in
-      (omega (arith, at.level.within, low.1, at.ruled.small), omega (arith, at.level.within, low.2, at.ruled.small))
-
   module _ {turns : ℕ} (is-turns : turns ≡ choices k v i) (tried : y < turns) where
     pub class_low : y < 64
     class_low = choice_bit at.ruled at.level is-turns tried

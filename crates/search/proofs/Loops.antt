@@ -1,21 +1,17 @@
 -- What holds at each of the search's loops.
 use mathlib.Core.Path.{◌≡◌, sym, ap, ◌∙◌, subst}
-use mathlib.Core.Bool.{false}
 use mathlib.Core.List.{List, [], ◌∷◌}
 use Prim.Native.Nat.{ℕ, ◌*◌, ◌^◌, ◌≤◌, ◌<◌}
-use native.Mathlib.Omega.{arith}
 use lib.ListN.{length, take}
 use Rattle.paper.specs.Meaning.{total}
-use Rattle.sets.specs.Sets.{less}
 use Rattle.tables.specs.Held.{rules_of}
 use Rattle.tables.specs.declared.Rules.{Rules}
-use Rattle.values.specs.Lanes.{lane}
 use Rattle.lanes.specs.Prefixes.{choices}
 use Rattle.lanes.specs.Automaton.{woven_automaton}
-use Rattle.search.specs.Searched.{Searchable, Opened}
+use Rattle.search.specs.Searched.{Opened}
 use Rattle.search.proofs.Order.{rule_in}
 use Rattle.search.proofs.Walk.{Clear, Level}
-use Rattle.search.proofs.Steps.{Ruled, Lanes}
+use Rattle.search.proofs.Steps.{Searching, Ruled, Lanes}
 
 -- The rows are as many as at first, and enough.
 pub record Roomed (k : ℕ) (m₀ m : List (List ℕ)) : Type 0 where
@@ -24,15 +20,11 @@ pub record Roomed (k : ℕ) (m₀ m : List (List ℕ)) : Type 0 where
 
 module _ (arities words heads : List ℕ) (rules : Rules) (k : ℕ) where
   -- Before a rule.
-  pub record AtRule (budget : ℕ) (tokens : List ℕ) (most size count : ℕ) (m₀ m : List (List ℕ)) (examined rule : ℕ) : Type 0 where
-    pub ok : Searchable arities words heads rules k
+  pub record AtRule (budget most size : ℕ) (m₀ m : List (List ℕ)) (examined rule : ℕ) : Type 0 where
+    pub ok : Searching arities words heads rules k
     pub small : budget < 4294967296
-    pub long : length rules.tokens ≡ 1536
-    pub is_tokens : tokens ≡ rules.tokens
     pub is_most : most ≡ budget
     pub is_size : size ≡ k
-    pub is_count : count ≡ rules.count
-    pub upto : rule ≤ rules.count
     pub place : examined ≡ total k (take rule (rules_of arities rules))
     pub within : examined ≤ budget
     pub clear : Clear (woven_automaton arities words heads k) (rules_of arities rules) examined
@@ -59,16 +51,6 @@ module _ (arities words heads : List ℕ) (rules : Rules) (k : ℕ) where
       pub ruled : Ruled arities words heads rules k budget most size r tokens v lanes passed1 passed0 m0 m1 m2 variables right leads1
       pub lane : Lanes arities words heads rules k budget r v x0 x1 x2 right m start j n
       pub room : 52 * k ≤ length m
-
--- At a class of a lane.
-pub record AtClass (k right : ℕ) (m : List (List ℕ)) (j q : ℕ) : Type 0 where
-  pub none : (x : ℕ) → x < q → less (lane k m 0 j) (lane k m right j) x ≡ false
-  pub upto : q ≤ k
-
--- A rule that is not past the last is listed.
-pub rule_still : {arities words heads : List ℕ} {rules : Rules} {k budget : ℕ} {tokens : List ℕ} {most size count : ℕ} {m₀ m : List (List ℕ)} {examined rule : ℕ}
-    → AtRule arities words heads rules k budget tokens most size count m₀ m examined rule → (rule ≡ count → ⊥) → rule < rules.count
-rule_still at left = omega (arith, at.upto, at.is_count)
 
 -- Numbers that are the same under two names.
 pub times : {n b : ℕ} (k : ℕ) → n ≡ b → n * k ≡ b * k

@@ -2,27 +2,27 @@
 use mathlib.Core.Path.{◌≡◌, refl, sym, ap, ◌∙◌, subst}
 use mathlib.Core.List.Memᴰ
 use mathlib.Core.List.{List, [], ◌∷◌, ◌++◌, map, map-append, Memᴰ}
-use Prim.Native.Nat.{ℕ, zero, suc, ◌+◌, ◌-◌, ◌*◌, ◌^◌, ◌≤◌, ◌<◌}
+use Prim.Native.Nat.{ℕ, ◌+◌, ◌-◌, ◌*◌, ◌^◌, ◌≤◌, ◌<◌}
 use native.Mathlib.Omega.{arith}
-use native.Mathlib.Nat.{add-zero}
 use native.Mathlib.Decide.{dec_lt}
-use lib.ListN.{length, get_or, take, drop, take-append-drop, length-map, length-take, length-drop}
-use lib.Seq.{drop-drop, take-take}
+use lib.ListN.{length, get_or, take, drop, take-append-drop, length-map, length-take}
 use Rattle.theory.specs.Lists.{count_from}
 use Rattle.theory.specs.Term.{Term, Terms, var, node, none, ◌then◌, variables, variables_all}
 use Rattle.theory.specs.Preorder.{preorder}
 use Rattle.theory.specs.Rewriting.{Rule, variable_count, WellShaped}
+use Rattle.theory.specs.Automaton.{Transition, InRange}
 use Rattle.theory.specs.Value.{is_critical}
-use Rattle.theory.proofs.Count.{get_or_values, length_count, mem_order, order_mem}
+use Rattle.theory.proofs.Count.{get_or_values, length_count, mem_order}
 use Rattle.paper.specs.Checked.{says}
-use Rattle.paper.specs.Sides.{term_of}
 use Rattle.paper.proofs.Preorder.{preorder_exact}
 use Rattle.sets.specs.Sets.{less}
-use Rattle.tables.specs.Held.{token_of, side_at, rule_at, rules_of}
+use Rattle.tables.specs.Held.{token_of, side_at, rule_in as said_of, rule_at, rules_of, no_rule as none_kept}
+use Rattle.tables.specs.declared.Rule.{Rule as Kept}
 use Rattle.tables.specs.declared.Rules.{Rules}
-use Rattle.woven.specs.Woven.{part, move_of, woven_moves}
+use Rattle.woven.specs.Woven.{move_of, woven_moves}
 use Rattle.values.specs.Lanes.{lane, sheet_of}
-use Rattle.values.specs.Standing.{Each, EachRow, one, over, empty, ◌beside◌, Spells, Stands, Ready}
+use Rattle.woven.specs.Ready.{Ready}
+use Rattle.values.specs.Standing.{Each, EachRow, one, over, empty, ◌beside◌, Spells, Stands}
 use Rattle.values.proofs.Spanned.{each_then}
 use Rattle.values.proofs.Standing.{variable_here, sheet_room}
 use Rattle.alike.specs.Needed.{RuleGiven, Led}
@@ -32,28 +32,6 @@ use Rattle.lanes.specs.Automaton.{woven_automaton}
 use Rattle.search.specs.Searched.{Searchable, Told}
 use Rattle.search.proofs.Order.{place_listed, no_rule, rule_in}
 use Rattle.search.proofs.Walk.{Clear, Run}
-
--- A rule's own tokens.
-abbrev pub own : List ℕ → ℕ → List ℕ
-own tokens at = take (at + 48 - at) (drop at tokens)
-
--- There are 48 of them.
-own_width : (at : ℕ) → at + 48 - at ≡ 48
-own_width at = omega arith
-
-pub own_long : (tokens : List ℕ) (at : ℕ) → at + 48 ≤ length tokens → length (own tokens at) ≡ 48
-own_long tokens at h = omega (arith, length-take (at + 48 - at) (drop at tokens), length-drop at tokens, own_width at)
-
--- The n tokens from place p on among a rule's own are those among all.
-own_side : (tokens : List ℕ) (at p n : ℕ) → p + n ≤ 48 → take n (drop p (own tokens at)) ≡ take n (drop (at + p) tokens)
-own_side tokens at p n h =
-    ap (λ w. take n (drop p (take w (drop at tokens)))) (own_width at) ∙ cut p 48 n (drop at tokens) h ∙ ap (take n) (drop-drop p at tokens)
-  where
-    cut : (a b n : ℕ) (l : List ℕ) → a + n ≤ b → take n (drop a (take b l)) ≡ take n (drop a l)
-    cut zero b n l h = take-take n b l (omega arith)
-    cut (suc a) zero n l h = absurd (omega arith)
-    cut (suc a) (suc b) n [] h = refl
-    cut (suc a) (suc b) n (x ∷ l) h = cut a b n l (omega arith)
 
 -- Tokens that are read as a term spell it.
 side_spells : (arities tokens : List ℕ) (at n : ℕ) (t : Term ℕ) → side_at arities tokens at n ≡ says t → Spells arities tokens at t (map token_of (drop n (drop at tokens)))
@@ -74,11 +52,6 @@ side_short arities tokens at n t e =
     let (p, r) = (preorder_exact arities (map token_of (take n (drop at tokens))) t).0 e in
     omega (arith, ap length p, length-map (take n (drop at tokens)) token_of, length-take n (drop at tokens))
 
--- A side among a rule's own tokens is read as it is among all.
-own_read : (arities tokens : List ℕ) (at p n : ℕ) (t : Term ℕ) → p + n ≤ 48 → side_at arities tokens (at + p) n ≡ says t → side_at arities (own tokens at) p n ≡ says t
-unfolding side_at
-own_read arities tokens at p n t h e = ap (λ l. term_of arities (map token_of l)) (own_side tokens at p n h) ∙ e
-
 mutual
   unfolding variables
 
@@ -91,52 +64,50 @@ mutual
   each_listed_all P none all = empty
   each_listed_all P (t then ts) all = each_listed P t (λ x m. all x (Memᴰ.append_left (variables_all ts) m)) beside each_listed_all P ts (λ x m. all x (Memᴰ.append_right (variables t) m))
 
+abbrev move_of_word : (arities words : List ℕ) → ℕ → Transition
+move_of_word arities words i = move_of arities (get_or words i 0)
+
 pub rule_count : (arities : List ℕ) (rules : Rules) → length (rules_of arities rules) ≡ rules.count
 unfolding rules_of
 rule_count arities rules = length-map (count_from 0 rules.count) (rule_at arities rules) ∙ length_count 0 rules.count
 
-module _ {arities words heads : List ℕ} {rules : Rules} {k : ℕ} (ok : Searchable arities words heads rules k) where
+-- What the search relies on: the automaton is ready for valuing, and the rules are right.
+pub record Searching (arities words heads : List ℕ) (rules : Rules) (k : ℕ) : Type 0 where
+  pub ready : Ready arities words heads k
+  pub right : Searchable arities rules
+
+module _ {arities words heads : List ℕ} {k : ℕ} (ready : Ready arities words heads k) where
+  -- The targets of the transitions that the words mean are states.
+  pub in_range : InRange (woven_automaton arities words heads k)
+  unfolding woven_automaton woven_moves move_of
+  in_range = record {
+    targets = λ tr n.
+        let (i, place, is) = Memᴰ.of_map (move_of_word arities words) (count_from 0 (get_or heads 64 0)) n in
+        let inside : i < get_or heads 64 0 = omega (arith, (mem_order 0 (get_or heads 64 0) place).1) in
+        subst (λ (t : Transition). t.target < k) is (ready.target i inside);
+  }
+
+module _ {arities words heads : List ℕ} {rules : Rules} {k : ℕ} (ok : Searching arities words heads rules k) where
   abbrev R : List Rule
   R = rules_of arities rules
 
-  -- The tables are ready for valuing.
-  pub tables_ready : Ready arities words heads k
-  unfolding woven_automaton woven_moves move_of
-  tables_ready = record {
-    indexed = ok.indexed;
-    target = λ i h. ok.in_range.targets (move_of arities (get_or words i 0)) (word_listed i h);
-    argument = λ i j h hj. ok.arguments (move_of arities (get_or words i 0)) (word_listed i h) (part (get_or words i 0) j)
-        (argument_listed (get_or words i 0) (get_or arities (part (get_or words i 0) 4) 0) j (ok.ranks (part (get_or words i 0) 4)) hj);
-    ranks = ok.ranks;
-    some = ok.some_class;
-    most = ok.most_classes;
-  }
-    where
-      word_listed : (i : ℕ) → i < get_or heads 64 0 → Memᴰ (move_of arities (get_or words i 0)) (woven_moves arities words (get_or heads 64 0))
-      word_listed i h = Memᴰ.map (λ i. move_of arities (get_or words i 0)) (order_mem 0 (get_or heads 64 0) i (omega arith) (omega arith))
-
-      argument_listed : (w n j : ℕ) → n ≤ 3 → j < n → Memᴰ (part w j) (take n (part w 0 ∷ (part w 1 ∷ (part w 2 ∷ []))))
-      argument_listed w zero j most h = absurd (omega arith)
-      argument_listed w (suc n) zero most h = Memᴰ.head refl
-      argument_listed w (suc zero) (suc j) most h = absurd (omega arith)
-      argument_listed w (suc (suc n)) (suc zero) most h = Memᴰ.tail (Memᴰ.head refl)
-      argument_listed w (suc (suc zero)) (suc (suc j)) most h = absurd (omega arith)
-      argument_listed w (suc (suc (suc n))) (suc (suc zero)) most h = Memᴰ.tail (Memᴰ.tail (Memᴰ.head refl))
-      argument_listed w (suc (suc (suc n))) (suc (suc (suc j))) most h = absurd (omega arith)
-
   module _ (r : ℕ) (h : r < rules.count) where
-    rule_is : rule_in R r ≡ rule_at arities rules r
-    unfolding rules_of
+    -- The rule as it is kept.
+    abbrev own : Kept
+    own = get_or rules.rules r none_kept
+
+    rule_is : rule_in R r ≡ said_of arities own
+    unfolding rules_of rule_at
     rule_is = get_or_values (rule_at arities rules) no_rule rules.count r h
 
     pub rule_listed : Memᴰ (rule_in R r) R
     rule_listed = place_listed R no_rule r (omega (arith, rule_count arities rules))
 
-    pub rule_variables : get_or rules.variables r 0 ≡ variable_count (rule_in R r)
-    rule_variables = (ok.sound r h).variables ∙ ap variable_count (sym rule_is)
+    pub rule_variables : own.variables ≡ variable_count (rule_in R r)
+    rule_variables = (ok.right.sound r h).variables ∙ ap variable_count (sym rule_is)
 
     shape : WellShaped (rule_in R r)
-    shape = ok.shaped (rule_in R r) rule_listed
+    shape = ok.right.shaped (rule_in R r) rule_listed
 
     -- Both sides are over the rule's variables.
     left_over : (v : ℕ) → v ≡ variable_count (rule_in R r) → Each (λ x. x < v) (rule_in R r).left
@@ -146,28 +117,26 @@ module _ {arities words heads : List ℕ} {rules : Rules} {k : ℕ} (ok : Search
     right_over v e = each_listed _ (rule_in R r).right (λ x m. omega (arith, (mem_order 0 (variable_count (rule_in R r)) (subst (Memᴰ x) shape.in_order (shape.from_left x m))).1))
 
     few : variable_count (rule_in R r) ≤ 4
-    few = omega (arith, rule_variables, ok.few r)
+    few = omega (arith, rule_variables, ok.right.few r)
 
     four : (t : Term ℕ) → Each (λ x. x < variable_count (rule_in R r)) t → Each (λ x. x < 4) t
     four t = each_then _ _ (λ x l. omega (arith, few))
 
-    -- The sides among the rule's own tokens.
-    module _ {tokens : List ℕ} (is : tokens ≡ own rules.tokens (r * 48)) where
-      left_read : side_at arities tokens 0 (get_or rules.lefts r 0) ≡ says (rule_in R r).left
-      left_read = rw (is, rule_is) (own_read arities rules.tokens (r * 48) 0 (get_or rules.lefts r 0) (rule_at arities rules r).left (omega (arith, (ok.sound r h).left_short))
-          (rw add-zero (ok.sound r h).left))
+    -- What its tokens say, under another name for them.
+    module _ {tokens : List ℕ} (is : tokens ≡ own.tokens) where
+      left_read : side_at arities tokens 0 own.left ≡ says (rule_in R r).left
+      left_read = rw (is, rule_is) (ok.right.sound r h).left
 
-      right_read : side_at arities tokens 24 (get_or rules.rights r 0) ≡ says (rule_in R r).right
-      right_read = rw (is, rule_is) (own_read arities rules.tokens (r * 48) 24 (get_or rules.rights r 0) (rule_at arities rules r).right (omega (arith, (ok.sound r h).right_short))
-          (ok.sound r h).right)
+      right_read : side_at arities tokens 24 own.right ≡ says (rule_in R r).right
+      right_read = rw (is, rule_is) (ok.right.sound r h).right
 
       pub rule_told : {v : ℕ} → v ≡ variable_count (rule_in R r) → Told arities tokens v (rule_in R r)
       rule_told {v} e = record {
         spelled = record {
           after_left = _;
           after_right = _;
-          left = side_spells arities tokens 0 (get_or rules.lefts r 0) (rule_in R r).left left_read;
-          right = side_spells arities tokens 24 (get_or rules.rights r 0) (rule_in R r).right right_read;
+          left = side_spells arities tokens 0 own.left (rule_in R r).left left_read;
+          right = side_spells arities tokens 24 own.right (rule_in R r).right right_read;
           left_four = four (rule_in R r).left (left_over (variable_count (rule_in R r)) refl);
           right_four = four (rule_in R r).right (right_over (variable_count (rule_in R r)) refl);
         };
@@ -179,49 +148,43 @@ module _ {arities words heads : List ℕ} {rules : Rules} {k : ℕ} (ok : Search
       left_standing : Stands arities tokens 0
       left_standing =
           let spelled = (rule_told refl).spelled in
-          let short = side_short arities tokens 0 (get_or rules.lefts r 0) (rule_in R r).left left_read in
-          record { term = (rule_in R r).left; rest = _; spells = spelled.left; room = omega (arith, short, (ok.sound r h).left_short); four = spelled.left_four }
+          let short = side_short arities tokens 0 own.left (rule_in R r).left left_read in
+          record { term = (rule_in R r).left; rest = _; spells = spelled.left; room = omega (arith, short, (ok.right.sound r h).left_short); four = spelled.left_four }
 
       right_standing : Stands arities tokens 24
       right_standing =
           let spelled = (rule_told refl).spelled in
-          let short = side_short arities tokens 24 (get_or rules.rights r 0) (rule_in R r).right right_read in
-          record { term = (rule_in R r).right; rest = _; spells = spelled.right; room = omega (arith, short, (ok.sound r h).right_short); four = spelled.right_four }
+          let short = side_short arities tokens 24 own.right (rule_in R r).right right_read in
+          record { term = (rule_in R r).right; rest = _; spells = spelled.right; room = omega (arith, short, (ok.right.sound r h).right_short); four = spelled.right_four }
 
       -- The left side is no bare variable, so its first token is a symbol's.
       symbol_first : length tokens ≡ 48 → get_or tokens 0 0 < 64
       symbol_first long = elim (dec_lt (get_or tokens 0 0) 64) [
         | yes h ↦ h
         | no n ↦ absurd (shape.not_bare _ (variable_here arities tokens 0 (omega (arith, long)) (past n) (rule_in R r).left _
-            (side_spells arities tokens 0 (get_or rules.lefts r 0) (rule_in R r).left left_read)).0)
+            (side_spells arities tokens 0 own.left (rule_in R r).left left_read)).0)
       ]
         where
           past : (get_or tokens 0 0 < 64 → ⊥) → 64 ≤ get_or tokens 0 0
           past n = omega arith
 
-      tokens_long : length rules.tokens ≡ 1536 → length tokens ≡ 48
-      tokens_long long = ap length is ∙ own_long rules.tokens (r * 48) (omega (arith, ok.rules_bound))
-
-      pub rule_judgeable : {m : List (List ℕ)} → length rules.tokens ≡ 1536 → 52 * k ≤ length m → Judgeable arities words heads tokens k m
+      pub rule_judgeable : {m : List (List ℕ)} → length tokens ≡ 48 → 52 * k ≤ length m → Judgeable arities tokens k m
       rule_judgeable long room =
           record {
-            ready = tables_ready;
-            tokens_long = tokens_long long;
+            tokens_long = long;
             left = left_standing;
             right = right_standing;
-            symbol = symbol_first (tokens_long long);
+            symbol = symbol_first long;
             room = room;
           }
 
       -- What naming the classes that lead relies on.
-      pub rule_given : {x : ℕ} → length rules.tokens ≡ 1536 → x < 4 → RuleGiven words heads arities tokens x
+      pub rule_given : {x : ℕ} → length tokens ≡ 48 → x < 4 → RuleGiven arities tokens x
       rule_given long low =
           let left = left_standing in
           let right = right_standing in
           record {
-            indexed = ok.indexed;
-            long = tokens_long long;
-            ranks = ok.ranks;
+            long = long;
             left = record { term = left.term; rest = left.rest; spells = left.spells };
             right = record { term = right.term; rest = right.rest; spells = right.spells };
             variable = low;
@@ -234,13 +197,13 @@ module _ {arities words heads : List ℕ} {rules : Rules} {k : ℕ} (ok : Search
 module _ (arities words heads : List ℕ) (rules : Rules) (k : ℕ) where
   -- The numbers of a rule.
   pub record Ruled (budget most size r : ℕ) (tokens : List ℕ) (v lanes passed1 passed0 m0 m1 m2 variables right leads1 : ℕ) : Type 0 where
-    pub ok : Searchable arities words heads rules k
+    pub ok : Searching arities words heads rules k
     pub small : budget < 4294967296
     pub listed : r < rules.count
-    pub long : length rules.tokens ≡ 1536
+    pub long : length tokens ≡ 48
     pub is_most : most ≡ budget
     pub is_size : size ≡ k
-    pub is_tokens : tokens ≡ own rules.tokens (r * 48)
+    pub is_tokens : tokens ≡ (get_or rules.rules r none_kept).tokens
     pub is_v : v ≡ variable_count (rule_in (rules_of arities rules) r)
     pub is_variables : variables ≡ v
     pub is_right : right ≡ sheet_of tokens 24 * k

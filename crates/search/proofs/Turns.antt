@@ -10,8 +10,8 @@ use lib.Seq.{take_all}
 use Rattle.theory.specs.Rewriting.{Rule}
 use Rattle.theory.specs.Automaton.{Automaton}
 use Rattle.theory.specs.Value.{is_critical}
-use Rattle.paper.specs.Meaning.{Closure, Asked as Question, total}
-use Rattle.paper.specs.Computed.{case}
+use Rattle.paper.specs.Meaning.{Closure, total}
+use Rattle.paper.specs.Computed.{case, closure}
 use Rattle.paper.proofs.Examined.{Outcome}
 use Rattle.sets.specs.Sets.{mem, less}
 use Rattle.tables.specs.Held.{rules_of}
@@ -26,14 +26,14 @@ use Rattle.alike.specs.Needed.{Led}
 use Rattle.lanes.specs.Prefixes.{rest, choices, chosen, pair_of}
 use Rattle.lanes.specs.Batches.{Batch, Prefix, Judgeable}
 use Rattle.lanes.specs.Automaton.{woven_automaton}
-use Rattle.search.specs.Searched.{Searchable, Told, Opened, searched}
+use Rattle.search.specs.Searched.{Told, Opened}
 use Rattle.lanes.proofs.Shown.{pair_classes, pair_ended}
-use Rattle.lanes.proofs.Numbers.{lane_low, power_low, rest_few, rest_all, choices_low}
+use Rattle.lanes.proofs.Numbers.{lane_low, rest_all, choices_low}
 use Rattle.search.proofs.Order.{rule_in, total_next}
 use Rattle.search.proofs.Walk.{all, case_at, Calm, Clear, clear_run, clear_more, Run, Level, level_run, level_end, level_next, level_start}
 use Rattle.search.proofs.Walk.{calm_from, judged, smallest_class, lane_at, out_closed, out_stopped, out_critical, pass_stop}
 use Rattle.search.proofs.Passed.{passed_calm}
-use Rattle.search.proofs.Steps.{rule_count, rule_listed, rule_told, rule_judgeable, rule_right, Ruled, Lanes}
+use Rattle.search.proofs.Steps.{Searching, in_range, rule_count, rule_listed, rule_told, rule_judgeable, rule_right, Ruled, Lanes}
 
 -- One, two or three classes below k.
 pub no_class : (k : ℕ) → Prefix k 2 []
@@ -60,13 +60,13 @@ right_fits b k n e h most = omega (arith, mul-le-mul_right k (below n (omega ari
     below n h = omega arith
 
 -- What the search tells once it ends.
-module _ {arities words heads : List ℕ} {rules : Rules} {k : ℕ} (ok : Searchable arities words heads rules k) (budget : ℕ) where
+module _ {arities words heads : List ℕ} {rules : Rules} {k : ℕ} (ok : Searching arities words heads rules k) (budget : ℕ) where
   abbrev pub Answer : Verdict → Type 0
-  Answer = Tells (Question.answered (searched arities words heads rules k budget))
+  Answer = Tells (closure (woven_automaton arities words heads k) (rules_of arities rules) budget)
 
   outcome : (o : Closure) → Outcome (woven_automaton arities words heads k) (all (woven_automaton arities words heads k) (rules_of arities rules)) budget 0 o
-      → Question.answered o ≡ Question.answered (searched arities words heads rules k budget)
-  outcome = judged (woven_automaton arities words heads k) (rules_of arities rules) ok.in_range ok.shaped budget
+      → o ≡ closure (woven_automaton arities words heads k) (rules_of arities rules) budget
+  outcome = judged (woven_automaton arities words heads k) (rules_of arities rules) (in_range ok.ready) ok.right.shaped budget
 
   stopped : Outcome (woven_automaton arities words heads k) (all (woven_automaton arities words heads k) (rules_of arities rules)) budget 0 (Closure.stopped budget) → Answer (Stopped budget)
   unfolding said_closure EndedIn
@@ -93,7 +93,7 @@ module _ {arities words heads : List ℕ} {rules : Rules} {k budget most size r 
   rule = rule_in Rs r
 
   -- Its sides may be judged.
-  pub judgeable : {m : List (List ℕ)} → 52 * k ≤ length m → Judgeable arities words heads tokens k m × (variables ≤ 4)
+  pub judgeable : {m : List (List ℕ)} → 52 * k ≤ length m → Judgeable arities tokens k m × (variables ≤ 4)
   judgeable room = (rule_judgeable t.ok r t.listed t.is_tokens t.long room, omega (arith, t.few, t.is_variables))
 
   told : Told arities tokens variables rule
@@ -117,17 +117,10 @@ module _ {arities words heads : List ℕ} {rules : Rules} {k budget most size r 
       → Batch A rule v x0 x1 x2 tokens m some
   batch_for {x0} {x1} {x2} {m} {some} b = subst (λ n. Batch A rule n x0 x1 x2 tokens m some) t.is_variables (b rule told.spelled told.left_below told.right_below)
 
-  -- What is passed over at once is small.
-  pub sizes_low : (lanes ≤ 262144) × (passed1 ≤ 262144) × (passed0 ≤ 262144)
-  sizes_low = (low 3 t.lanes_are (omega arith), low 2 t.passed1_is (omega arith), low 1 t.passed0_is (omega arith))
-    where
-      low : {n : ℕ} (i : ℕ) → n ≡ k ^ rest v i → 0 < i → n ≤ 262144
-      low i e h = omega (arith, power_low k (rest v i) t.ok.most_classes (rest_few v i t.few h))
-
   -- A substitution none of whose classes is critical.
   calm_for : (σ : List ℕ) → ((q : ℕ) → q < k → is_critical A rule σ q ≡ false) → Calm A Rs (case r rule σ)
   unfolding woven_automaton
-  calm_for σ = calm_from A Rs t.ok.in_range t.ok.shaped r rule σ (rule_listed t.ok r t.listed)
+  calm_for σ = calm_from A Rs (in_range t.ok.ready) t.ok.right.shaped r rule σ (rule_listed t.ok r t.listed)
 
   -- A choice of a variable.
   module _ {i : ℕ} {xs : List ℕ} {start y n m : ℕ} (l : Level A Rs v i r rule xs budget start y n) (is_m : m ≡ choices k v i) (tried : y < m) where
@@ -136,10 +129,10 @@ module _ {arities words heads : List ℕ} {rules : Rules} {k budget most size r 
 
     -- It is a class.
     pub choice_low : y < k
-    choice_low = omega (arith, going, choices_low k v i t.ok.some_class)
+    choice_low = omega (arith, going, choices_low k v i t.ok.ready.some)
 
     pub choice_bit : y < 64
-    choice_bit = omega (arith, choice_low, t.ok.most_classes)
+    choice_bit = omega (arith, choice_low, t.ok.ready.most)
 
     -- The choices of the next variable are begun.
     pub next_begun : Level A Rs v (i + 1) r rule (xs ++ (y ∷ [])) budget n 0 n
@@ -156,7 +149,7 @@ module _ {arities words heads : List ℕ} {rules : Rules} {k budget most size r 
     module _ {size_of mask : ℕ} (is_size : size_of ≡ k ^ rest v (i + 1)) (opened : Opened A rule v xs mask) (gone : mem mask y ≡ false) where
       calm : (d : ℕ) → d < k ^ rest v (i + 1) → Calm A Rs (case_at A Rs (n + d))
       unfolding woven_automaton
-      calm = passed_calm A Rs t.ok.in_range t.ok.shaped v i r rule xs budget start y n l going (rule_listed t.ok r t.listed) mask opened gone choice_low
+      calm = passed_calm A Rs (in_range t.ok.ready) t.ok.right.shaped v i r rule xs budget start y n l going (rule_listed t.ok r t.listed) mask opened gone choice_low
 
       pub passed_next : {n' : ℕ} → size_of ≤ most - n → n' ≡ n + size_of → Level A Rs v i r rule xs budget start (y + 1) n'
       unfolding woven_automaton
@@ -182,7 +175,7 @@ module _ {arities words heads : List ℕ} {rules : Rules} {k budget most size r 
     listed_still = omega (arith, l.place, l.run.inside, in_batch)
 
     pub lane_bit : j < 64
-    lane_bit = (lane_low k v j t.ok.most_classes t.few in_batch).0
+    lane_bit = (lane_low k v j t.ok.ready.most t.few in_batch).0
 
     pub lane_next : (n ≡ most → ⊥) → ((q : ℕ) → q < k → less (lane k m 0 j) (lane k m right j) q ≡ false) → Lanes arities words heads rules k budget r v x0 x1 x2 right m start (j + 1) (n + 1)
     unfolding woven_automaton
@@ -210,15 +203,15 @@ module _ {arities words heads : List ℕ} {rules : Rules} {k budget most size r 
         → ((x : ℕ) → x < q → less (lane k m 0 j) (lane k m right j) x ≡ false) → p ≡ pair_of r v x0 x1 x2 j q → Answer t.ok budget (Critical p (n + 1))
     unfolding said_closure EndedIn pair_of
     lane_found {q} left is hit none shown =
-        let low0 : x0 < 64 = omega (arith, l.low0, t.ok.most_classes) in
-        let low1 : x1 < 64 = omega (arith, l.low1, t.ok.most_classes) in
-        let low2 : x2 < 64 = omega (arith, l.low2, t.ok.most_classes) in
-        let smallest = smallest_class A Rs t.ok.in_range t.ok.shaped r rule (chosen v x0 x1 x2 j) q (sym (l.each j in_batch q) ∙ sym is ∙ hit)
+        let low0 : x0 < 64 = omega (arith, l.low0, t.ok.ready.most) in
+        let low1 : x1 < 64 = omega (arith, l.low1, t.ok.ready.most) in
+        let low2 : x2 < 64 = omega (arith, l.low2, t.ok.ready.most) in
+        let smallest = smallest_class A Rs (in_range t.ok.ready) t.ok.right.shaped r rule (chosen v x0 x1 x2 j) q (sym (l.each j in_batch q) ∙ sym is ∙ hit)
         (λ x h. sym (l.each j in_batch x) ∙ none x h) in
         let found = out_critical A Rs budget n r rule (chosen v x0 x1 x2 j) q listed_still (omega (arith, l.within, t.is_most)) l.clear here smallest in
         record {
-          says = ap (λ (p : CriticalPair). Question.answered (Closure.critical p.rule (classes_of p) p.class (n + 1))) shown
-              ∙ ap (λ (xs : List ℕ). Question.answered (Closure.critical r xs q (n + 1))) (pair_classes r x0 x1 x2 j q low0 low1 low2 lane_bit v)
+          says = ap (λ (p : CriticalPair). Closure.critical p.rule (classes_of p) p.class (n + 1)) shown
+              ∙ ap (λ (xs : List ℕ). Closure.critical r xs q (n + 1)) (pair_classes r x0 x1 x2 j q low0 low1 low2 lane_bit v)
               ∙ outcome t.ok budget _ found;
           ended = subst Ended (sym shown) (pair_ended r x0 x1 x2 j q low0 low1 low2 lane_bit v);
         }

@@ -14,7 +14,7 @@ use Rattle.theory.specs.Rewriting.{Rule, variable_count, WellShapedRules}
 use Rattle.theory.specs.Automaton.{Automaton, InRange}
 use Rattle.theory.specs.Value.{substitutions, is_critical}
 use Rattle.theory.proofs.Search.{left_below}
-use Rattle.paper.specs.Meaning.{Closure, Asked, total, Smallest}
+use Rattle.paper.specs.Meaning.{Closure, total, Smallest}
 use Rattle.paper.specs.Computed.{Case, case, cases, closure}
 use Rattle.paper.proofs.Listed.{CriticalFor, Quiet}
 use Rattle.paper.proofs.Cases.{length_cases, critical_iff, class_some, class_none}
@@ -162,9 +162,9 @@ module _ (M : Automaton) (R : List Rule) where
         true≢false (sym ((critical_iff M R (case r rule σ) q).1 k) ∙ none q low)
 
     -- An answer that meets the outcome is the one of the definition.
-    pub judged : (budget : ℕ) (k : Closure) → Outcome M all budget 0 k → Asked.answered k ≡ Asked.answered (closure M R budget)
+    pub judged : (budget : ℕ) (k : Closure) → Outcome M all budget 0 k → k ≡ closure M R budget
     unfolding closure
-    judged budget v o = ap Asked.answered (sym (decides M all budget 0 (λ c m. record { some_class = class_some M R c; no_class = class_none M R range shaped c m }) v o))
+    judged budget k o = sym (decides M all budget 0 (λ c m. record { some_class = class_some M R c; no_class = class_none M R range shaped c m }) k o)
 
     -- The first class that is critical.
     pub smallest_class : (r : ℕ) (rule : Rule) (σ : List ℕ) (q : ℕ) → is_critical M rule σ q ≡ true → ((x : ℕ) → x < q → is_critical M rule σ x ≡ false) → Smallest (CriticalFor M (case r rule σ)) q

@@ -19,7 +19,7 @@ use Rattle.theory.proofs.Tests.{retarget}
 use Rattle.theory.proofs.Joined.{Joined, joined_complete, joined_shares, catches}
 use Rattle.tables.specs.Held.{move_at}
 use Rattle.tables.proofs.Moves.{move_row, row_move}
-use Rattle.sharing.specs.Share.{flat, arg, rel, joins, ClosedAt, OnlyShared, Words, sum, Grown, Full, Still, PassedTo, Rests, Small, Exact, Shareable, TwoBytes, TwoRows}
+use Rattle.sharing.specs.Share.{flat, arg, rel, joins, ClosedAt, OnlyShared, Words, sum, Grown, Full, Still, PassedTo, Rests, Exact, Shareable, TwoRows}
 use Rattle.theory.proofs.Bools.{or_on, or_cases, and_both, and_true₂, not_both, neither}
 
 and_last : (a b c : Bool) → (a && (b && (c && true))) ≡ (a && (b && c))
@@ -85,16 +85,6 @@ module _ (merged ar : List ℕ) (j : ℕ) where
       third = λ l. (apart _ (s.third l)).1;
     }
 
--- Byte o of two rows that are there.
-pub two_bytes : {pairs merged bad : List ℕ} {j m : ℕ} → TwoRows pairs merged j bad m → Small merged → Small bad → (o : ℕ) → o < 5
-    → TwoBytes pairs merged (j * 5 + o) bad (m * 5 + o)
-two_bytes r s t o h =
-    record { here = omega (arith, r.here); there = omega (arith, r.there); masks = r.masks; small = s; bad_small = t }
-
--- What a test of the argument p says, the symbol having so many.
-pub argument_told : (p : ℕ) (related : Bool) {n many : ℕ} {told : Bool} → n ≡ many → told ≡ (leb n p || related) → told ≡ (leb many p || related)
-argument_told p related f e = e ∙ ap (λ k. leb k p || related) f
-
 module _ (merged bad ar : List ℕ) (ok : Shareable merged bad ar) where
   -- The arguments of rows that join are related pairwise, and the other way round.
   joins_pairwise : (r : ℕ → ℕ → Bool) (n a b c x y z : ℕ) → n ≤ 3
@@ -143,10 +133,6 @@ module _ (merged bad ar : List ℕ) (ok : Shareable merged bad ar) where
   -- ---- the ends of a visit
   pub none_yet : (pairs : List ℕ) (p : Type 0) → p → Grown merged bad ar pairs pairs 0 p
   none_yet pairs p h = record { long = refl; words = λ s. s; only_shared = λ s. s; grew = λ c b e. e; others = λ c e. refl; up = omega arith; more = inl refl; rest = h }
-
-  -- what is closed, said another way
-  pub closed_by : (pairs pairs' : List ℕ) (got : ℕ) (p z : Type 0) → Grown merged bad ar pairs pairs' got p → z → Grown merged bad ar pairs pairs' got z
-  closed_by pairs pairs' got p z g h = record { long = g.long; words = g.words; only_shared = g.only_shared; grew = g.grew; others = g.others; up = g.up; more = g.more; rest = h }
 
   module _ (pairs : List ℕ) (j m : ℕ) where
     pub visit_add : TwoRows pairs merged j bad m → joins merged bad ar (rel pairs) j m ≡ true → rel pairs (arg merged j 4) (arg bad m 4) ≡ false

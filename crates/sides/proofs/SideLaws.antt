@@ -1,14 +1,15 @@
 -- What the passes find of a side's bytes is what paper says of its tokens: one term or not, its variables, its first token.
 use mathlib.Core.Path.{◌≡◌, refl, sym, ap, ◌∙◌}
-use mathlib.Core.Bool.{Bool, true, false, not, and-eq-true_iff, false≢true}
+use mathlib.Core.Bool.{Bool, true, false, and-eq-true_iff, false≢true}
 use mathlib.Core.Logic.{inl, inr}
 use mathlib.Core.List.{List, [], ◌∷◌, ◌++◌, map}
 use Prim.Native.Nat.{ℕ, zero, suc, ◌+◌, ◌-◌, ◌≤◌, ◌<◌}
 use native.Mathlib.Omega.{arith}
-use borrow.Author.Tests.{eqb-true, eqb-false, eq-eqb, ne_eqb, le-leb, lt-leb, leb-true, leb-false, lt-ltb, le-ltb, ltb-true}
-use lib.Dec.{eqb, leb}
-use lib.ListN.{length, take, get_or}
-use lib.Seq.{get_or-take}
+use borrow.Author.Tests.{eqb-true, eqb-false, eq-eqb, ne_eqb, le-leb, lt-leb, leb-true, leb-false, lt-ltb, le-ltb, ltb-true, ltb-false}
+use lib.Dec.{eqb, leb, ltb}
+use lib.ListN.{length, get_or}
+use Rattle.std.specs.Prelude.{Option, Some, None}
+use Rattle.std.specs.List.{list_all}
 use Rattle.theory.specs.Lists.{count_from, any}
 use Rattle.theory.specs.Term.{Term, Terms, var, node, none, ◌then◌, variables, variables_all}
 use Rattle.theory.specs.Preorder.{Token, symbol, variable, preorder, preorder_all}
@@ -21,9 +22,7 @@ use Rattle.paper.proofs.Exact.{listed_iff}
 use Rattle.paper.proofs.Tokens.{tokens_exact}
 use Rattle.theory.proofs.Count.{mem_order, order_mem}
 use Rattle.tables.specs.Held.{token_of, byte_of, side_of}
-use Rattle.sides.specs.declared.Lined.{Lined}
-use Rattle.sides.specs.declared.Lined.TheVariants.{Count, Broken}
-use Rattle.sides.specs.Tokens.{closes, open_terms, is_one, step_lined, lined, strange, no_strange}
+use Rattle.sides.specs.Tokens.{closes, open_terms, is_one, step_lined, lined, known}
 
 -- How many terms a row has, and how many are left behind its first n.
 size : Terms ℕ → ℕ
@@ -42,12 +41,12 @@ part_short zero us h = absurd (omega arith)
 part_short (suc n) none h = refl
 part_short (suc n) (t then ts) h = rw (part_short n ts (omega arith))
 
--- What paper's row of terms and the count of them have in common: as many, or both refused, paper's by 8.
-Same : Checked (Terms ℕ) → Checked ℕ → Type 0
-Same (says us) (says n) = n ≡ size us
-Same (says us) (fault s) = ⊥
-Same (fault r) (says n) = ⊥
-Same (fault r) (fault s) = r ≡ 8
+-- What paper's row of terms and the count of them have in common: as many, or none of both, paper's refused by 8.
+Same : Checked (Terms ℕ) → Option ℕ → Type 0
+Same (says us) (Some n) = n ≡ size us
+Same (says us) None = ⊥
+Same (fault r) (Some n) = ⊥
+Same (fault r) None = r ≡ 8
 
 single_one : (us : Terms ℕ) → eqb (size us) 1 ≡ true → (t : Term ℕ) × (single us ≡ says t)
 unfolding single size
@@ -61,55 +60,51 @@ single_not none e = refl
 single_not (t then none) e = absurd (eqb-false 1 1 e refl)
 single_not (t then (u then us)) e = refl
 
-module _ (arities : List ℕ) (S : ℕ) (few : length (take S arities) ≡ S) (most : S ≤ 64) where
-  before_size : (t : Token) (us : Terms ℕ) → permitted (take S arities) t ≡ true → Same (before (take S arities) t us) (closes arities (byte_of t) (size us))
+module _ (ar : List ℕ) (most : length ar ≤ 64) where
+  before_size : (t : Token) (us : Terms ℕ) → permitted ar t ≡ true → Same (before ar t us) (closes ar (byte_of t) (size us))
   unfolding before permitted byte_of closes Same size ◌>>=◌
   before_size (variable x) us k = rw (le-ltb (64 + x) 64 (omega arith), closes) (omega arith)
   before_size (symbol f) us k =
-      let listed : f < S = omega (arith, ltb-true f (length (take S arities)) k) in
-      let arity = get_or-take S arities f 0 listed in
-      let low = lt-ltb f 64 (omega arith) in
-      elim (decided (leb (get_or arities f 0) (size us))) [
-        | inl q ↦
-            let (p, e, g) = part_size (get_or arities f 0) us (leb-true _ _ q) in
-            rw (low, arity, q, e, closes) (omega arith)
-        | inr q ↦ rw (low, arity, q, part_short (get_or arities f 0) us (leb-false _ _ q), closes)
+      let low = lt-ltb f 64 (omega (arith, ltb-true f (length ar) k)) in
+      elim (decided (leb (get_or ar f 0) (size us))) [
+        | inl q ↦ let (p, e, g) = part_size (get_or ar f 0) us (leb-true _ _ q) in rw (low, q, e, closes) (omega arith)
+        | inr q ↦ rw (low, q, part_short (get_or ar f 0) us (leb-false _ _ q), closes)
       ]
 
-  terms_size : (ts : List Token) → all ts (permitted (take S arities)) ≡ true → Same (terms (take S arities) ts) (open_terms arities (map byte_of ts))
+  terms_size : (ts : List Token) → all ts (permitted ar) ≡ true → Same (terms ar ts) (open_terms ar (map byte_of ts))
   unfolding terms all open_terms Same size ◌>>=◌
   terms_size [] e = refl
   terms_size (t ∷ ts) e =
-      let (a, b) = (and-eq-true_iff (permitted (take S arities) t) (all ts (permitted (take S arities)))).0 e in
-      go a (terms (take S arities) ts) (open_terms arities (map byte_of ts)) (terms_size ts b)
+      let (a, b) = (and-eq-true_iff (permitted ar t) (all ts (permitted ar))).0 e in
+      go a (terms ar ts) (open_terms ar (map byte_of ts)) (terms_size ts b)
     where
-      go : permitted (take S arities) t ≡ true → (j : Checked (Terms ℕ)) (k : Checked ℕ) → Same j k → Same (j >>= before (take S arities) t) (k >>= closes arities (byte_of t))
-      go a (says us) (says n) e = rw e (before_size t us a)
-      go a (says us) (fault s) e = absurd e
-      go a (fault r) (says n) e = absurd e
-      go a (fault r) (fault s) e = e
+      go : permitted ar t ≡ true → (j : Checked (Terms ℕ)) (k : Option ℕ) → Same j k → Same (j >>= before ar t) (elim k [ None ↦ None | Some n ↦ closes ar (byte_of t) n ])
+      go a (says us) (Some n) e = rw e (before_size t us a)
+      go a (says us) None e = absurd e
+      go a (fault r) (Some n) e = absurd e
+      go a (fault r) None e = e
 
-  module _ (ts : List Token) (k : all ts (permitted (take S arities)) ≡ true) where
+  module _ (ts : List Token) (k : all ts (permitted ar) ≡ true) where
     -- 8: not one term.
-    pub one_term : is_one (open_terms arities (map byte_of ts)) ≡ true → (t : Term ℕ) × (term_of (take S arities) ts ≡ says t)
+    pub one_term : is_one (open_terms ar (map byte_of ts)) ≡ true → (t : Term ℕ) × (term_of ar ts ≡ says t)
     unfolding term_of is_one Same ◌>>=◌
-    one_term e = go (terms (take S arities) ts) (open_terms arities (map byte_of ts)) (terms_size ts k) e
+    one_term e = go (terms ar ts) (open_terms ar (map byte_of ts)) (terms_size ts k) e
       where
-        go : (j : Checked (Terms ℕ)) (k : Checked ℕ) → Same j k → is_one k ≡ true → (t : Term ℕ) × ((j >>= single) ≡ says t)
-        go (says us) (says n) h e = single_one us (rw h at e)
-        go (says us) (fault s) h e = absurd h
-        go (fault r) (says n) h e = absurd h
-        go (fault r) (fault s) h e = absurd (false≢true e)
+        go : (j : Checked (Terms ℕ)) (k : Option ℕ) → Same j k → is_one k ≡ true → (t : Term ℕ) × ((j >>= single) ≡ says t)
+        go (says us) (Some n) h e = single_one us (rw h at e)
+        go (says us) None h e = absurd h
+        go (fault r) (Some n) h e = absurd h
+        go (fault r) None h e = absurd (false≢true e)
 
-    pub not_term : is_one (open_terms arities (map byte_of ts)) ≡ false → term_of (take S arities) ts ≡ fault 8
+    pub not_term : is_one (open_terms ar (map byte_of ts)) ≡ false → term_of ar ts ≡ fault 8
     unfolding term_of is_one Same ◌>>=◌
-    not_term e = go (terms (take S arities) ts) (open_terms arities (map byte_of ts)) (terms_size ts k) e
+    not_term e = go (terms ar ts) (open_terms ar (map byte_of ts)) (terms_size ts k) e
       where
-        go : (j : Checked (Terms ℕ)) (k : Checked ℕ) → Same j k → is_one k ≡ false → (j >>= single) ≡ fault 8
-        go (says us) (says n) h e = single_not us (rw h at e)
-        go (says us) (fault s) h e = absurd h
-        go (fault r) (says n) h e = absurd h
-        go (fault r) (fault s) h e = ap fault h
+        go : (j : Checked (Terms ℕ)) (k : Option ℕ) → Same j k → is_one k ≡ false → (j >>= single) ≡ fault 8
+        go (says us) (Some n) h e = single_not us (rw h at e)
+        go (says us) None h e = absurd h
+        go (fault r) (Some n) h e = absurd h
+        go (fault r) None h e = ap fault h
 
 -- The variables of a term are those of its tokens.
 vars : List Token → List ℕ
@@ -141,25 +136,24 @@ eqb_up x k = elim (decided (eqb x k)) [
   | inr p ↦ rw (p, ne_eqb (64 + x) (64 + k) (λ e. eqb-false x k p (omega arith)))
 ]
 
-step_variable : (x k : ℕ) → step_lined (64 + x) k ≡ elim (eqb x k) [ true ↦ Count (k + 1) | false ↦ Broken ]
+step_variable : (x k : ℕ) → step_lined (64 + x) k ≡ elim (eqb x k) [ true ↦ Some (k + 1) | false ↦ None ]
 unfolding step_lined
 step_variable x k = rw (le-ltb (64 + x) 64 (omega arith), eqb_up x k, step_lined)
 
-step_symbol : (f k : ℕ) → f < 64 → step_lined f k ≡ Count k
+step_symbol : (f k : ℕ) → f < 64 → step_lined f k ≡ Some k
 unfolding step_lined
 step_symbol f k h = rw (lt-ltb f 64 h, step_lined)
 
-ordered : Bool → ℕ → Lined
-ordered true n = Count n
-ordered false n = Broken
+ordered : Bool → ℕ → Option ℕ
+ordered true n = Some n
+ordered false n = None
 
-not_strange : (x v : ℕ) → any (count_from 0 v) (eqb x) ≡ not (strange v (64 + x))
-unfolding strange
-not_strange x v = elim (decided (leb (64 + v) (64 + x))) [
-  | inr p ↦ rw p ((listed_iff x (count_from 0 v)).1 (order_mem 0 v x (omega arith) (omega (arith, leb-false (64 + v) (64 + x) p))))
-  | inl p ↦ rw p (elim (decided (any (count_from 0 v) (eqb x))) [
-    | inl q ↦ absurd (omega (arith, mem_order 0 v ((listed_iff x (count_from 0 v)).0 q), leb-true (64 + v) (64 + x) p))
-    | inr q ↦ q
+known_variable : (v x : ℕ) → known v (64 + x) ≡ any (count_from 0 v) (eqb x)
+known_variable v x = elim (decided (ltb (64 + x) (64 + v))) [
+  | inl p ↦ rw p (sym ((listed_iff x (count_from 0 v)).1 (order_mem 0 v x (omega arith) (omega (arith, ltb-true (64 + x) (64 + v) p)))))
+  | inr p ↦ rw p (elim (decided (any (count_from 0 v) (eqb x))) [
+    | inl q ↦ absurd (omega (arith, mem_order 0 v ((listed_iff x (count_from 0 v)).0 q), ltb-false (64 + x) (64 + v) p))
+    | inr q ↦ sym q
   ])
 ]
 
@@ -184,7 +178,7 @@ module _ (ar : List ℕ) (most : length ar ≤ 64) where
 
   lined_vars : (ts : List Token) (k : ℕ) → all ts (permitted ar) ≡ true → lined k (map byte_of ts) ≡ ordered (same (vars ts) (count_from k (length (vars ts)))) (k + length (vars ts))
   unfolding ordered all byte_of vars count_from same lined
-  lined_vars [] k e = ap Count (omega arith)
+  lined_vars [] k e = ap Some (omega arith)
   lined_vars (symbol f ∷ ts) k e =
       let (a, b) = (and-eq-true_iff (permitted ar (symbol f)) (all ts (permitted ar))).0 e in
       rw (step_symbol f k (listed_symbol f a), lined) (lined_vars ts k b)
@@ -198,19 +192,15 @@ module _ (ar : List ℕ) (most : length ar ≤ 64) where
         | inr p ↦ rw (step_variable x k, p, lined)
       ]
 
-  strange_vars : (v : ℕ) (ts : List Token) → all ts (permitted ar) ≡ true → no_strange v (map byte_of ts) ≡ all (vars ts) (λ x. any (count_from 0 v) (eqb x))
-  unfolding all byte_of vars no_strange
-  strange_vars v [] e = refl
-  strange_vars v (symbol f ∷ ts) e =
+  known_vars : (v : ℕ) (ts : List Token) → all ts (permitted ar) ≡ true → list_all (known v) (map byte_of ts) ≡ all (vars ts) (λ x. any (count_from 0 v) (eqb x))
+  unfolding all byte_of vars
+  known_vars v [] e = refl
+  known_vars v (symbol f ∷ ts) e =
       let (a, b) = (and-eq-true_iff (permitted ar (symbol f)) (all ts (permitted ar))).0 e in
-      let s : strange v f ≡ false = unfold strange in (lt-leb (64 + v) f (omega (arith, listed_symbol f a))) in
-      rw (s, no_strange) (strange_vars v ts b)
-  strange_vars v (variable x ∷ ts) e =
+      rw (lt-ltb f (64 + v) (omega (arith, listed_symbol f a))) (known_vars v ts b)
+  known_vars v (variable x ∷ ts) e =
       let (a, b) = (and-eq-true_iff (permitted ar (variable x)) (all ts (permitted ar))).0 e in
-      rw (not_strange x v) (elim (decided (strange v (64 + x))) [
-        | inl p ↦ rw (p, no_strange)
-        | inr p ↦ rw (p, no_strange) (strange_vars v ts b)
-      ])
+      rw (known_variable v x, known_vars v ts b)
 
   module _ (t : Term ℕ) (k : all (preorder t) (permitted ar) ≡ true) where
     -- 9: bare, or not in order.
@@ -234,7 +224,7 @@ module _ (ar : List ℕ) (most : length ar ≤ 64) where
       | inr p ↦ absurd (omega (arith, ((tokens_exact ar t).0 k).1 4 (rw (← e) at (order_mem 0 v 4 (omega arith) (omega (arith, leb-false v 4 p))))))
     ]
 
-    pub in_order : (v : ℕ) → lined 0 (side_of t) ≡ Count v → (same (variables t) (count_from 0 (length (variables t))) ≡ true) × (variables t ≡ count_from 0 v) × (v ≤ 4)
+    pub in_order : (v : ℕ) → lined 0 (side_of t) ≡ Some v → (same (variables t) (count_from 0 (length (variables t))) ≡ true) × (variables t ≡ count_from 0 v) × (v ≤ 4)
     unfolding ordered
     in_order v e = elim (decided (same (variables t) (count_from 0 (length (variables t))))) [
       | inl p ↦
@@ -245,7 +235,7 @@ module _ (ar : List ℕ) (most : length ar ≤ 64) where
       | inr p ↦ let f = rw p at (sym in_line ∙ e) in let z : ◌≡◌ {A = ℕ} 0 1 = cc in absurd (omega arith)
     ]
 
-    pub out_of_order : lined 0 (side_of t) ≡ Broken → same (variables t) (count_from 0 (length (variables t))) ≡ false
+    pub out_of_order : lined 0 (side_of t) ≡ None → same (variables t) (count_from 0 (length (variables t))) ≡ false
     unfolding ordered
     out_of_order e = elim (decided (same (variables t) (count_from 0 (length (variables t))))) [
       | inl p ↦ let f = rw p at (sym in_line ∙ e) in let z : ◌≡◌ {A = ℕ} 0 1 = cc in absurd (omega arith)
@@ -253,6 +243,6 @@ module _ (ar : List ℕ) (most : length ar ≤ 64) where
     ]
 
     -- 10: a variable that the left side lacks.
-    pub right_known : (l : Term ℕ) (v : ℕ) → variables l ≡ count_from 0 v → all (variables t) (λ x. any (variables l) (eqb x)) ≡ no_strange v (side_of t)
+    pub right_known : (l : Term ℕ) (v : ℕ) → variables l ≡ count_from 0 v → all (variables t) (λ x. any (variables l) (eqb x)) ≡ list_all (known v) (side_of t)
     unfolding side_of
-    right_known l v e = rw (e, term_vars t) (sym (strange_vars v (preorder t) k))
+    right_known l v e = rw (e, term_vars t) (sym (known_vars v (preorder t) k))

@@ -3,53 +3,38 @@ use mathlib.Core.Path.{◌≡◌, refl, sym, ap, ◌∙◌}
 use mathlib.Core.Bool.{Bool, true, false, ◌&&◌, not}
 use mathlib.Core.List.{List, [], ◌∷◌, map}
 use Prim.Native.Nat.{ℕ, ◌≤◌, ◌<◌}
+use Prim.Native.String.{String}
 use native.Mathlib.Omega.{arith}
 use borrow.Author.Tests.{le-leb, lt-leb}
 use lib.Dec.{eqb, leb}
-use lib.ListN.{length, drop, take, get_or}
+use lib.ListN.{length, drop, get_or, length-map}
+use lib.Seq.{length-take-le}
+use Rattle.std.specs.Prelude.{Option, Some, None, Result, Ok, Err}
+use Rattle.std.specs.List.{list_all}
 use Rattle.theory.specs.Lists.{count_from, any}
 use Rattle.theory.specs.Term.{Term, variables}
 use Rattle.theory.specs.Preorder.{Token, preorder}
-use Rattle.paper.specs.Checked.{Checked, fault, says, ◌>>=◌, ◌>>◌, ◌unless◌}
+use Rattle.paper.specs.Checked.{Checked, says, ◌>>◌, ◌unless◌}
 use Rattle.paper.specs.Fields.{all}
-use Rattle.paper.specs.Certificate.{Row}
-use Rattle.paper.specs.Format.{Reading, refused, gave, line_of}
+use Rattle.paper.specs.Format.{line_of}
 use Rattle.paper.specs.Sides.{permitted, term, term_of, same, bare, left_side, right_side}
 use Rattle.paper.proofs.Preorder.{preorder_exact}
 use Rattle.tables.specs.Held.{byte_of, side_of, spoken}
+use Rattle.verdicts.specs.declared.refusals.Refusal.{Refusal}
+use Rattle.verdicts.specs.declared.refusals.Reason.TheVariants.{NoTerm, LeftVariables, UnknownVariable}
+use Rattle.verdicts.specs.Refused.{number}
 use Rattle.fields.specs.declared.cursor.Cursor.{Cursor}
 use Rattle.fields.specs.declared.lists.Items.{Items}
-use Rattle.fields.specs.declared.lists.Listed.TheVariants.{Got, Refused}
-use Rattle.fields.specs.Line.{line_row}
+use Rattle.fields.specs.declared.rows.Kind.TheVariants.{Left, Right}
+use Rattle.fields.specs.Line.{refuse}
 use Rattle.fields.specs.Padded.{padded}
-use Rattle.fields.specs.Trans.{refusal_in}
-use Rattle.fields.proofs.Steps.{bind_bind}
-use Rattle.sides.specs.declared.Lined.TheVariants.{Count, Broken}
+use Rattle.fields.specs.Said.{said_by, Whole, Answer, said_items, WholeList}
+use Rattle.fields.proofs.Whole.{padded_length}
 use Rattle.sides.specs.declared.Side.{Side}
-use Rattle.sides.specs.declared.Ends.TheVariants.{Got as GotSide}
-use Rattle.sides.specs.Tokens.{meant, open_terms, is_one, lined, no_strange, said_ends, said_side, no_side}
-use Rattle.sides.specs.Tokens.{CountedEnds, CountedSide, CarriedEnds, WholeTokens, WholeEnds, WholeSide, LeftLine, RightLine}
+use Rattle.sides.specs.Tokens.{meant, open_terms, is_one, lined, known, WholeTokens, term_in, side_term, TermLine, RightSide, LeftLine, RightLine}
+use Rattle.sides.proofs.Further.{further, line_further, test_fails, test_passes, gave_it, refused_it, gives, refuses}
+use Rattle.sides.proofs.TokenReadings.{as_bytes, line_tokens, tokens_listed, bytes_refused, bytes_gave}
 use Rattle.sides.proofs.SideLaws.{one_term, not_term, tokens_back, bare_first, in_order, out_of_order, right_known}
-use Rattle.sides.proofs.TokenLines.{tokens_in, term_tokens, answered, TermLine, TokenLine, token_line, token_refused}
-
--- A side is a term that passes a test; its failing has a number.
-unfoldable side_by : ℕ → (Term ℕ → Bool) → List ℕ → List ℕ → Checked (Term ℕ)
-side_by number test ar value = term ar value >>= (λ t. number unless test t >> says t)
-
-unfoldable term_by : ℕ → (Term ℕ → Bool) → Checked (Term ℕ) → Checked (Term ℕ)
-term_by number test j = j >>= (λ t. number unless test t >> says t)
-
--- The reading of a side's line.
-unfoldable line_by : List ℕ → List ℕ → Row → Cursor → ℕ → (Term ℕ → Bool) → Reading (Term ℕ)
-line_by file ar R c number test = line_of R.key (side_by number test ar) c.line (drop c.at file)
-
-by_tokens : (file ar : List ℕ) (R : Row) (c : Cursor) (number : ℕ) (test : Term ℕ → Bool)
-    → line_by file ar R c number test ≡ line_of R.key (λ value. tokens_in ar value >>= (λ ts. term_by number test (term_of ar ts))) c.line (drop c.at file)
-unfolding line_by side_by term_by
-by_tokens file ar R c number test = λ i. line_of R.key (λ value. turned value i) c.line (drop c.at file)
-  where
-    turned : (value : List ℕ) → side_by number test ar value ≡ (tokens_in ar value >>= (λ ts. term_by number test (term_of ar ts)))
-    turned value = rw (term_tokens ar value) (bind_bind (tokens_in ar value) (term_of ar) (λ t. number unless test t >> says t))
 
 padded_first : (xs : List ℕ) → get_or (padded 64 xs) 0 0 ≡ get_or xs 0 0
 unfolding padded
@@ -61,142 +46,142 @@ meant_is : (ar : List ℕ) → length ar ≤ 64 → (cs : List ℕ) (ts : List T
 unfolding meant spoken
 meant_is ar most cs ts u e k h = rw (e, tokens_back ar most ts k, h)
 
--- The first n tokens are one term: it is spelt by them, and the line says it where the test is passed.
-record OneTerm (file ar : List ℕ) (R : Row) (c : Cursor) (tokens : List ℕ) (n : ℕ) (d : Cursor) : Type 0 where
-  listed : all (preorder (meant ar (take n tokens))) (permitted ar) ≡ true
-  first : get_or tokens 0 0 ≡ get_or (side_of (meant ar (take n tokens))) 0 0
-  whole : WholeTokens file ar tokens n d
-  judged : (number : ℕ) (test : Term ℕ → Bool) → line_by file ar R c number test
-      ≡ answered file c.line d (number unless test (meant ar (take n tokens)) >> says (meant ar (take n tokens)))
+-- The line of one term: its tokens, as bytes, are what the line of entries answers.
+module _ (file ar : List ℕ) (most : length ar ≤ 64) (key : String) (c : Cursor) where
+  abbrev pub Bytes : Result (Items × Cursor) Refusal → Type 0
+  Bytes = Answer said_items (WholeList 67) file c.line (as_bytes ar key c.line (drop c.at file))
 
-module _ {file arities : List ℕ} {S : ℕ} {R : Row} {c : Cursor} {it : Items} (l : TermLine file arities S R c it) where
-  pub few_symbols : length (take S arities) ≤ 64
-  few_symbols = omega (arith, l.few, l.most)
+  abbrev pub Told : Result (Items × Cursor) Refusal → Type 0
+  Told = Answer (term_in ar) (λ it. WholeTokens ar it.items it.count) file c.line (line_of key (term ar) c.line (drop c.at file))
 
-  refused_line : (r : ℕ) → it.answer ≡ Refused r → (number : ℕ) (test : Term ℕ → Bool) → line_by file (take S arities) R c number test ≡ refused (refusal_in it.answer) c.line
-  refused_line r e number test = by_tokens file (take S arities) R c number test ∙ token_refused file arities S R c it l _ r e
+  pub term_refused : {e : Refusal} → Bytes (Err e) → Told (Err e)
+  unfolding further
+  term_refused {e} a =
+      let (s, l) = refused_it a in
+      refuses e (line_tokens ar key c.line (drop c.at file) ∙ ap (further (term_of ar) c.line) (bytes_refused ar key c.line (drop c.at file) _ _ s)) l
 
-  module _ {n : ℕ} {a : Bool} {d : Cursor} (e : it.answer ≡ Got n a d) where
-    t : TokenLine file (take S arities) R.key c it n d
-    t = token_line file arities S R c it l n a d e
+  module _ {it : Items} {d : Cursor} (a : Bytes (Ok (it, d))) where
+    pub few_items : it.count ≤ 64
+    few_items = (gave_it a).1.few
 
-    pub few_tokens : n ≤ 24
-    few_tokens = t.few
+    pub not_one : is_one (open_terms ar (said_items it)) ≡ false → Told (Err (refuse c.line NoTerm))
+    unfolding further number
+    not_one o =
+        let (ts, s, b) = bytes_gave ar key c.line (drop c.at file) _ _ _ (gave_it a).0 in
+        let k = tokens_listed ar key c.line (drop c.at file) ts _ _ s in
+        let j = not_term ar most ts k.0 (ap (λ cs. is_one (open_terms ar cs)) b ∙ o) in
+        refuses (refuse c.line NoTerm) (line_tokens ar key c.line (drop c.at file) ∙ rw (s, further) (rw j)) refl
 
-    term_read : (number : ℕ) (test : Term ℕ → Bool) (j : Checked (Term ℕ)) → term_of (take S arities) t.ts ≡ j
-        → line_by file (take S arities) R c number test ≡ answered file c.line d (term_by number test j)
-    term_read number test j h = by_tokens file (take S arities) R c number test ∙ t.said _ ∙ ap (λ k. answered file c.line d (term_by number test k)) h
-
-    not_one : is_one (open_terms arities (take n it.items)) ≡ false → (number : ℕ) (test : Term ℕ → Bool) → line_by file (take S arities) R c number test ≡ refused 8 c.line
-    unfolding answered term_by ◌>>=◌
-    not_one o number test =
-        term_read number test (fault 8) (not_term arities S l.few l.most t.ts t.listed (ap (λ cs. is_one (open_terms arities cs)) (sym t.are) ∙ o))
-
-    one : is_one (open_terms arities (take n it.items)) ≡ true → OneTerm file (take S arities) R c it.items n d
-    unfolding side_of term_by ◌>>=◌
+    pub one : is_one (open_terms ar (said_items it)) ≡ true → Told (Ok (it, d))
+    unfolding further side_of
     one o =
-        let (u, h) = one_term arities S l.few l.most t.ts t.listed (ap (λ cs. is_one (open_terms arities cs)) (sym t.are) ∙ o) in
-        let is : meant (take S arities) (take n it.items) ≡ u = meant_is (take S arities) few_symbols _ t.ts u t.are t.listed h in
-        let order : preorder (meant (take S arities) (take n it.items)) ≡ t.ts = ap preorder is ∙ ((preorder_exact (take S arities) t.ts u).0 h).0 in
-        let spelt : take n it.items ≡ side_of (meant (take S arities) (take n it.items)) = t.are ∙ ap (map byte_of) (sym order) in
-        record {
-          listed = ap (λ us. all us (permitted (take S arities))) order ∙ t.listed;
-          first = ap (λ (xs : List ℕ). get_or xs 0 0) t.behind ∙ padded_first _ ∙ ap (λ (xs : List ℕ). get_or xs 0 0) spelt;
-          whole = record { are = spelt; many = t.many ∙ ap length (sym order); few = t.few; low = t.low; behind = t.behind; placed = t.placed };
-          judged = λ number test. term_read number test (says (meant (take S arities) (take n it.items))) (h ∙ ap says (sym is));
-        }
-
-module _ {file ar : List ℕ} {R : Row} {c : Cursor} {tokens : List ℕ} {n : ℕ} {d : Cursor} (g : OneTerm file ar R c tokens n d) (number : ℕ) (test : Term ℕ → Bool) where
-  failed : test (meant ar (take n tokens)) ≡ false → line_by file ar R c number test ≡ refused number c.line
-  unfolding answered ◌unless◌ ◌>>◌
-  failed h = g.judged number test ∙ rw h
-
-  passed : test (meant ar (take n tokens)) ≡ true → line_by file ar R c number test ≡ gave (meant ar (take n tokens)) d.line (drop d.at file)
-  unfolding answered ◌unless◌ ◌>>◌
-  passed h = g.judged number test ∙ rw h
-
--- What is handed over says it.
-module _ (file ar : List ℕ) (c : Cursor) (s : Side) (j : Reading (Term ℕ)) where
-  none_said : (k : ℕ) → s ≡ no_side k → j ≡ refused k c.line → said_side file ar c.line s ≡ j
-  unfolding said_side said_ends no_side
-  none_said k e h = rw (e, h)
-
-  some_said : (tokens : List ℕ) (n v : ℕ) (d : Cursor) → s ≡ record { answer = GotSide n v d; tokens = tokens }
-      → j ≡ gave (meant ar (take n tokens)) d.line (drop d.at file) → said_side file ar c.line s ≡ j
-  unfolding said_side said_ends
-  some_said tokens n v d e h = rw (e, h)
+        let (read, w, placed) = gave_it a in
+        let (ts, s, b) = bytes_gave ar key c.line (drop c.at file) _ _ _ read in
+        let k = tokens_listed ar key c.line (drop c.at file) ts _ _ s in
+        let (u, j) = one_term ar most ts k.0 (ap (λ cs. is_one (open_terms ar cs)) b ∙ o) in
+        let is : term_in ar it ≡ u = meant_is ar most _ ts u (sym b) k.0 j in
+        let order : preorder (term_in ar it) ≡ ts = ap preorder is ∙ ((preorder_exact ar ts u).0 j).0 in
+        let room : it.count ≤ length it.items = omega (arith, w.few, ap length w.behind, padded_length 64 (said_items it)) in
+        let many : it.count ≡ length ts = omega (arith, length-take-le it.count it.items room, ap length b, length-map ts byte_of) in
+        gives it d (line_tokens ar key c.line (drop c.at file) ∙ rw (s, further) (rw (j, is)))
+        (record {
+          are = sym b ∙ ap (map byte_of) (sym order);
+          listed = ap (λ us. all us (permitted ar)) order ∙ k.0;
+          many = many ∙ ap length (sym order);
+          few = omega (arith, k.1);
+          low = λ i. omega (arith, w.low i);
+          behind = w.behind;
+        })
+        placed
 
 -- A left side.
 left_test : Term ℕ → Bool
 left_test t = not (bare t) && same (variables t) (count_from 0 (length (variables t)))
 
-module _ {file arities : List ℕ} {S : ℕ} {c : Cursor} {it : Items} (l : TermLine file arities S (line_row 12) c it) (s : Side) where
-  left_none : (k : ℕ) → s ≡ no_side k → line_by file (take S arities) (line_row 12) c 9 left_test ≡ refused k c.line → LeftLine file (take S arities) c s
-  unfolding line_by side_by left_test left_side CountedSide CountedEnds WholeSide WholeEnds no_side
-  left_none k e h = record { said = none_said file (take S arities) c s _ k e h; counted = rw e tt; whole = rw e refl }
+abbrev left_judge : Term ℕ → Checked (Term ℕ)
+left_judge t = 9 unless left_test t >> says t
 
-  pub left_refused : (k r : ℕ) → it.answer ≡ Refused r → s ≡ no_side k → k ≡ refusal_in it.answer → LeftLine file (take S arities) c s
-  left_refused k r e f h = left_none k f (refused_line l r e 9 left_test ∙ ap (λ n. refused n c.line) (sym h))
+module _ (file ar : List ℕ) (most : length ar ≤ 64) (c : Cursor) where
+  left_more : line_of "l" (left_side ar) c.line (drop c.at file) ≡ further left_judge c.line (line_of "l" (term ar) c.line (drop c.at file))
+  unfolding left_side left_test
+  left_more = line_further "l" (term ar) left_judge c.line (drop c.at file)
 
-  module _ {n : ℕ} {a : Bool} {d : Cursor} (e : it.answer ≡ Got n a d) where
-    pub left_eight : is_one (open_terms arities (take n it.items)) ≡ false → s ≡ no_side 8 → LeftLine file (take S arities) c s
-    left_eight o f = left_none 8 f (not_one l e o 9 left_test)
+  pub left_refused : {e : Refusal} → TermLine file ar Left c (Err e) → LeftLine file ar c (Err e)
+  unfolding further
+  left_refused {e} l = let (s, p) = refused_it l in refuses e (left_more ∙ ap (further left_judge c.line) s) p
 
-    module _ (o : is_one (open_terms arities (take n it.items)) ≡ true) where
-      starts : bare (meant (take S arities) (take n it.items)) ≡ leb 64 (get_or it.items 0 0)
-      starts = bare_first (take S arities) (few_symbols l) _ (one l e o).listed ∙ ap (leb 64) (sym (one l e o).first)
+  module _ {it : Items} {d : Cursor} (l : TermLine file ar Left c (Ok (it, d))) where
+    whole : WholeTokens ar it.items it.count
+    whole = (gave_it l).1
 
-      pub left_bare : 64 ≤ get_or it.items 0 0 → s ≡ no_side 9 → LeftLine file (take S arities) c s
-      unfolding left_test
-      left_bare h f = left_none 9 f (failed (one l e o) 9 left_test (rw (starts, le-leb 64 (get_or it.items 0 0) h)))
+    starts : bare (term_in ar it) ≡ leb 64 (get_or it.items 0 0)
+    starts = bare_first ar most _ whole.listed ∙ ap (leb 64) (ap (λ (xs : List ℕ). get_or xs 0 0) (sym whole.are) ∙ sym (padded_first _) ∙ ap (λ (xs : List ℕ). get_or xs 0 0) (sym whole.behind))
 
-      module _ (h : get_or it.items 0 0 < 64) where
-        pub left_broken : lined 0 (take n it.items) ≡ Broken → s ≡ no_side 9 → LeftLine file (take S arities) c s
-        unfolding left_test
-        left_broken w f =
-            let q = out_of_order (take S arities) (few_symbols l) _ (one l e o).listed (ap (lined 0) (sym (one l e o).whole.are) ∙ w) in
-            left_none 9 f (failed (one l e o) 9 left_test (rw (starts, lt-leb 64 (get_or it.items 0 0) h, q)))
+    spelt : (o : Option ℕ) → lined 0 (said_items it) ≡ o → lined 0 (side_of (term_in ar it)) ≡ o
+    spelt o w = ap (lined 0) (sym whole.are) ∙ w
 
-        pub left_good : (v : ℕ) → lined 0 (take n it.items) ≡ Count v → s ≡ record { answer = GotSide n v d; tokens = it.items } → LeftLine file (take S arities) c s
-        unfolding line_by side_by left_test left_side CountedSide CountedEnds WholeSide WholeEnds
-        left_good v w f =
-            let (q, r, b) = in_order (take S arities) (few_symbols l) _ (one l e o).listed v (ap (lined 0) (sym (one l e o).whole.are) ∙ w) in
-            record {
-              said = some_said file (take S arities) c s _ it.items n v d f (passed (one l e o) 9 left_test (rw (starts, lt-leb 64 (get_or it.items 0 0) h, q)));
-              counted = rw f (r, b);
-              whole = rw f (one l e o).whole;
-            }
+    left_bad : left_test (term_in ar it) ≡ false → LeftLine file ar c (Err (refuse c.line LeftVariables))
+    unfolding number
+    left_bad e = refuses _ (left_more ∙ ap (further left_judge c.line) (gave_it l).0 ∙ test_fails 9 left_test c.line _ _ _ e) refl
+
+    pub left_bare : 64 ≤ get_or it.items 0 0 → LeftLine file ar c (Err (refuse c.line LeftVariables))
+    unfolding left_test
+    left_bare b = left_bad (rw (starts, le-leb 64 (get_or it.items 0 0) b))
+
+    pub left_broken : get_or it.items 0 0 < 64 → lined 0 (said_items it) ≡ None → LeftLine file ar c (Err (refuse c.line LeftVariables))
+    unfolding left_test
+    left_broken b w = left_bad (rw (starts, lt-leb 64 (get_or it.items 0 0) b, out_of_order ar most _ whole.listed (spelt _ w)))
+
+    pub left_good : get_or it.items 0 0 < 64 → (v : ℕ) → lined 0 (said_items it) ≡ Some v → LeftLine file ar c (Ok (record { tokens = it.items; count = it.count; variables = v }, d))
+    unfolding left_test
+    left_good b v w =
+        let (q, n, m) = in_order ar most _ whole.listed v (spelt _ w) in
+        gives _ d
+        (left_more ∙ ap (further left_judge c.line) (gave_it l).0 ∙ test_passes 9 left_test c.line _ _ _ (rw (starts, lt-leb 64 (get_or it.items 0 0) b, q)))
+        (record { counted = n; few = m; whole = whole }) (gave_it l).2
 
 -- A right side, behind any left side of v variables.
 right_test : Term ℕ → Term ℕ → Bool
 right_test l t = all (variables t) (λ x. any (variables l) (eqb x))
 
-module _ {file arities : List ℕ} {S : ℕ} {c : Cursor} {it : Items} (l : TermLine file arities S (line_row 13) c it) (s : Side) (v : ℕ) where
-  right_none : (k : ℕ) → s ≡ no_side k → ((u : Term ℕ) → variables u ≡ count_from 0 v → line_by file (take S arities) (line_row 13) c 10 (right_test u) ≡ refused k c.line)
-      → RightLine file (take S arities) c v s
-  unfolding line_by side_by right_test right_side CarriedEnds WholeSide WholeEnds no_side
-  right_none k e h = record { said = λ u g. none_said file (take S arities) c s _ k e (h u g); carried = rw e tt; whole = rw e refl }
+abbrev right_judge : Term ℕ → Term ℕ → Checked (Term ℕ)
+right_judge l t = 10 unless right_test l t >> says t
 
-  pub right_refused : (k r : ℕ) → it.answer ≡ Refused r → s ≡ no_side k → k ≡ refusal_in it.answer → RightLine file (take S arities) c v s
-  right_refused k r e f h = right_none k f (λ u g. refused_line l r e 10 (right_test u) ∙ ap (λ n. refused n c.line) (sym h))
+module _ (file ar : List ℕ) (most : length ar ≤ 64) (c : Cursor) (v : ℕ) where
+  -- the answer behind the left side u
+  abbrev Behind : Term ℕ → Result (Side × Cursor) Refusal → Type 0
+  Behind u = Answer (side_term ar) (RightSide ar v) file c.line (line_of "r" (right_side ar u) c.line (drop c.at file))
 
-  module _ {n : ℕ} {a : Bool} {d : Cursor} (e : it.answer ≡ Got n a d) where
-    pub right_eight : is_one (open_terms arities (take n it.items)) ≡ false → s ≡ no_side 8 → RightLine file (take S arities) c v s
-    right_eight o f = right_none 8 f (λ u g. not_one l e o 10 (right_test u))
+  right_more : (u : Term ℕ) → line_of "r" (right_side ar u) c.line (drop c.at file) ≡ further (right_judge u) c.line (line_of "r" (term ar) c.line (drop c.at file))
+  unfolding right_side right_test
+  right_more u = line_further "r" (term ar) (right_judge u) c.line (drop c.at file)
 
-    module _ (o : is_one (open_terms arities (take n it.items)) ≡ true) where
-      known : (u : Term ℕ) → variables u ≡ count_from 0 v → right_test u (meant (take S arities) (take n it.items)) ≡ no_strange v (take n it.items)
-      unfolding right_test
-      known u g = right_known (take S arities) (few_symbols l) _ (one l e o).listed u v g ∙ ap (no_strange v) (sym (one l e o).whole.are)
+  right_no : (e : Refusal) → e.line ≡ Some c.line → ((u : Term ℕ) → variables u ≡ count_from 0 v → Behind u (Err e)) → RightLine file ar c v (Err e)
+  unfolding Whole
+  right_no e p h = record { said = λ u g. (h u g).said; whole = p }
 
-      pub right_strange : no_strange v (take n it.items) ≡ false → s ≡ no_side 10 → RightLine file (take S arities) c v s
-      right_strange w f = right_none 10 f (λ u g. failed (one l e o) 10 (right_test u) (known u g ∙ w))
+  pub right_refused : {e : Refusal} → TermLine file ar Right c (Err e) → RightLine file ar c v (Err e)
+  unfolding further
+  right_refused {e} l = let (s, p) = refused_it l in right_no e p (λ u g. refuses e (right_more u ∙ ap (further (right_judge u) c.line) s) p)
 
-      pub right_good : no_strange v (take n it.items) ≡ true → s ≡ record { answer = GotSide n v d; tokens = it.items } → RightLine file (take S arities) c v s
-      unfolding line_by side_by right_test right_side CarriedEnds WholeSide WholeEnds
-      right_good w f =
-          record {
-            said = λ u g. some_said file (take S arities) c s _ it.items n v d f (passed (one l e o) 10 (right_test u) (known u g ∙ w));
-            carried = rw f refl;
-            whole = rw f (one l e o).whole;
-          }
+  module _ {it : Items} {d : Cursor} (l : TermLine file ar Right c (Ok (it, d))) where
+    held : WholeTokens ar it.items it.count
+    held = (gave_it l).1
+
+    test_is : (u : Term ℕ) → variables u ≡ count_from 0 v → right_test u (term_in ar it) ≡ list_all (known v) (said_items it)
+    unfolding right_test
+    test_is u g = right_known ar most _ held.listed u v g ∙ ap (list_all (known v)) (sym held.are)
+
+    pub right_strange : list_all (known v) (said_items it) ≡ false → RightLine file ar c v (Err (refuse c.line UnknownVariable))
+    unfolding number
+    right_strange w =
+        right_no (refuse c.line UnknownVariable) refl
+        (λ u g. refuses _ (right_more u ∙ ap (further (right_judge u) c.line) (gave_it l).0 ∙ test_fails 10 (right_test u) c.line _ _ _ (test_is u g ∙ w)) refl)
+
+    pub right_good : list_all (known v) (said_items it) ≡ true → RightLine file ar c v (Ok (record { tokens = it.items; count = it.count; variables = v }, d))
+    unfolding Whole said_by
+    right_good w =
+        record {
+          said = λ u g. sym (right_more u ∙ ap (further (right_judge u) c.line) (gave_it l).0 ∙ test_passes 10 (right_test u) c.line _ _ _ (test_is u g ∙ w));
+          whole = (record { carried = refl; whole = held }, (gave_it l).2);
+        }

@@ -10,6 +10,7 @@ use Rattle.paper.specs.Sides.{term_of}
 use Rattle.paper.specs.Certificate.{Certificate}
 use Rattle.sets.specs.Sets.{mem}
 use Rattle.tables.specs.declared.Table.{Table}
+use Rattle.tables.specs.declared.Rule.{Rule as Kept}
 use Rattle.tables.specs.declared.Rules.{Rules}
 use Rattle.tables.specs.declared.Tables.{Tables}
 use Rattle.tables.specs.declared.Merging.{Merging}
@@ -56,9 +57,17 @@ spoken (fault n) = var 0
 unfoldable pub side_at : (arities tokens : List ℕ) → (at n : ℕ) → Checked (Term ℕ)
 side_at arities tokens at n = term_of arities (map token_of (take n (drop at tokens)))
 
+-- A rule without tokens, for what is past the last.
+unfoldable pub no_rule : Kept
+no_rule = record { tokens = []; left = 0; right = 0; variables = 0 }
+
+-- The sides of a rule.
+unfoldable pub rule_in : (arities : List ℕ) → Kept → Rule
+rule_in arities r = record { left = spoken (side_at arities r.tokens 0 r.left); right = spoken (side_at arities r.tokens 24 r.right) }
+
 -- Rule i.
 unfoldable pub rule_at : (arities : List ℕ) → Rules → ℕ → Rule
-rule_at arities r i = record { left = spoken (side_at arities r.tokens (i * 48) (get_or r.lefts i 0)); right = spoken (side_at arities r.tokens (i * 48 + 24) (get_or r.rights i 0)) }
+rule_at arities r i = rule_in arities (get_or r.rules i no_rule)
 
 -- All rules.
 unfoldable pub rules_of : (arities : List ℕ) → Rules → List Rule

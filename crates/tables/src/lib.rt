@@ -1,8 +1,11 @@
 // What a certificate holds, as the checker keeps it: plain numbers in flat arrays, so that nothing is copied where it is judged.
 #![tactic(auto)]
 
+mod certificate;
+
 ghost use Rattle.std.specs.Prelude.{◌≡◌, get_or};
 
+pub use certificate::Certificate;
 use sets::WIDTH;
 
 // How many states an automaton may have. The arrays have room for more: for as many as a mask has bits.
@@ -46,15 +49,21 @@ pub struct Table {
     pub rows: [u8; ROWS],
 }
 
-// The rules. Rule i has the RULE bytes of `tokens` from RULE * i on.
-// Beside them stand how many tokens each side has, and how many variables the left side has.
+// A rule: its left side's tokens from token 0 on and its right side's from token SIDE on, 0 behind each; how many tokens each side has, and how many
+// variables the left side has.
+#[derive(Clone, Copy)]
+pub struct Rule {
+    pub tokens: [u8; RULE],
+    pub left: u8,
+    pub right: u8,
+    pub variables: u8,
+}
+
+// The rules: the first `count` of them.
 #[derive(Clone, Copy)]
 pub struct Rules {
     pub count: usize,
-    pub tokens: [u8; RULE * RULES],
-    pub lefts: [u8; RULES],
-    pub rights: [u8; RULES],
-    pub variables: [u8; RULES],
+    pub rules: [Rule; RULES],
 }
 
 // All of a certificate but its merging: the arities of the first `symbols` symbols, A, B, the rules and the budget.
@@ -79,6 +88,5 @@ pub struct Merging {
 pub fn arity(arities: &[u8], f: u8) -> u8
     ensures { result ≡ get_or arities.now f 0 }
 {
-    let i = f as usize;
-    if i < arities.len() { arities[i] } else { 0 }
+    arities.get(f as usize).copied().unwrap_or(0)
 }

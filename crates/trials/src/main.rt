@@ -2,33 +2,24 @@
 // three: the whole verdict, the first question, the second.
 #![tactic(auto)]
 
-ghost use Rattle.std.specs.Prelude.{◌≡◌, ◌+◌, ◌*◌};
-
-use reply::read_full;
+use reply::{Question, read_full};
 use std::io::{self, Read, Write};
 
 // The most certificates in one run: nothing says that the input ends.
 const MOST: u32 = 1000000;
 
-// The length that two bytes say.
-fn length_of(high: u8, low: u8) -> usize
-    ensures { result ≡ high * 256 + low }
-{
-    (high as usize) * 256 + (low as usize)
-}
-
-// Prints the answer to the question that the letter names.
-fn print<W: Write>(output: &mut W, letter: u8, file: &[u8]) -> io::Result<()> {
+// Prints the answer to a question.
+fn print<W: Write>(output: &mut W, question: Question, file: &[u8]) -> io::Result<()> {
     let mut out = [0u8; 128];
-    let k = reply::ask(letter, file, &mut out);
+    let k = reply::ask(question, file, &mut out);
     output.write_all(&out[..k])
 }
 
 // Prints the whole verdict, then the answers to the first and the second question.
 fn print_all<W: Write>(output: &mut W, file: &[u8]) -> io::Result<()> {
-    print(output, b'v', file)?;
-    print(output, b's', file)?;
-    print(output, b'c', file)
+    print(output, Question::Verdict, file)?;
+    print(output, Question::Sharing, file)?;
+    print(output, Question::Closure, file)
 }
 
 // Answers the next certificate; false where there is none, or where it is cut off.
@@ -37,7 +28,7 @@ fn next<R: Read, W: Write>(input: &mut R, output: &mut W, file: &mut [u8]) -> io
     if read_full(input, &mut head)? < 2 {
         return Ok(false);
     }
-    let n = length_of(head[0], head[1]);
+    let n = u16::from_be_bytes(head) as usize;
     if file.len() < n {
         return Ok(false);
     }

@@ -115,18 +115,6 @@ pub record RowsDone (words heads : List ℕ) (f n k : ℕ) (m₀ : List (List �
       → lit (get_or m (out + p) []) l ≡ reached words heads f n k m₀ kids arities l p
 
 module _ {words heads : List ℕ} {f n k : ℕ} {m₀ : List (List ℕ)} {kids : List ℕ} {out : ℕ} (g : Gatherable words heads f n k m₀ kids out) where
-  pub rows_begun : {end i : ℕ} → end ≡ get_or heads (f + 1) 0 → i ≡ get_or heads f 0 → RowsDone words heads f n k m₀ kids out end m₀ i 0
-  rows_begun last first = record {
-    last = last;
-    low = omega arith;
-    high = omega (arith, g.indexed.sorted.order f g.symbol);
-    few = omega arith;
-    before = λ p lo hi. absurd (omega arith);
-    after = λ p lo hi. omega arith;
-    only = record { long = refl; same = λ i side. refl };
-    done = λ arities e l hl p h. absurd (omega arith);
-  }
-
   -- The targets of the words of f whose arguments are in their sheets are reached, and no other class.
   module _ (arities : List ℕ) (arity : get_or arities f 0 ≡ n) (l : ℕ) where
     abbrev sets : List Set

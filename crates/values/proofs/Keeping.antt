@@ -7,6 +7,8 @@ use native.Mathlib.Decide.{dec_lt, ℕ_discrete}
 use native.Mathlib.Omega.{arith}
 use lib.ListN.{length, get_or, set, drop, length-set, get_or-eq_default}
 use lib.Seq.{get_or-set_same, get_or-set_other}
+use Rattle.std.specs.declared.option.Option.{Option}
+use Rattle.std.specs.declared.option.Option.TheVariants.{Some}
 use Rattle.theory.specs.Term.{Term, Terms}
 use Rattle.theory.specs.Preorder.{Token}
 use Rattle.theory.specs.Automaton.{Transition}
@@ -19,27 +21,27 @@ use Rattle.values.proofs.Sheets.{Same, sheet_same, same_rows, given_same, sheet_
 use Rattle.values.proofs.Standing.{some_token, behind, each_variable, spelled_inside, inside, within_room, variable_here, symbol_here, no_terms, first_here, valued_room}
 
 -- Terms without the variable `near`.
-module _ (arities tokens : List ℕ) (near : ℕ) where
+module _ (arities tokens : List ℕ) (near : Option ℕ) where
   -- The term at a place is without it, and so is every term of the row there.
   abbrev pub Lacks : ℕ → Type 0
   Lacks at = (t : Term ℕ) (rest : List Token) → Spells arities tokens at t rest → Without near t
 
   abbrev pub LacksRow : (at n : ℕ) → Type 0
-  LacksRow at n = (ts : Terms ℕ) (rest : List Token) → SpellsRow arities tokens at n ts rest → EachRow (λ x. 64 + x ≡ near → ⊥) ts
+  LacksRow at n = (ts : Terms ℕ) (rest : List Token) → SpellsRow arities tokens at n ts rest → EachRow (λ x. near ≡ Some (64 + x) → ⊥) ts
 
-module _ {arities tokens : List ℕ} {near : ℕ} where
-  pub lacks_variable : {at : ℕ} → Stands arities tokens at → 64 ≤ get_or tokens at 0 → (get_or tokens at 0 ≡ near → ⊥) → Lacks arities tokens near at
-  lacks_variable {at = at} s hv ne t rest w = subst (Without near) (sym (variable_here arities tokens at (inside s) hv t rest w).0) (one (λ e. ne (omega arith)))
+module _ {arities tokens : List ℕ} {near : Option ℕ} where
+  pub lacks_variable : {at : ℕ} → Stands arities tokens at → 64 ≤ get_or tokens at 0 → (near ≡ Some (get_or tokens at 0) → ⊥) → Lacks arities tokens near at
+  lacks_variable {at = at} s hv ne t rest w = subst (Without near) (sym (variable_here arities tokens at (inside s) hv t rest w).0) (one (λ e. ne (e ∙ ap Some (omega arith))))
 
   pub lacks_none : {at : ℕ} → LacksRow arities tokens near at 0
-  lacks_none ts rest s = subst (EachRow (λ x. 64 + x ≡ near → ⊥)) (sym (no_terms arities tokens s.ranked refl)) empty
+  lacks_none ts rest s = subst (EachRow (λ x. near ≡ Some (64 + x) → ⊥)) (sym (no_terms arities tokens s.ranked refl)) empty
 
   pub lacks_more : {Δ : List Transition} {k at n : ℕ} {m after : List (List ℕ)} {second : ℕ} → Valued Δ arities tokens k m at after second
       → Lacks arities tokens near at → LacksRow arities tokens near second n
       → LacksRow arities tokens near at (suc n)
   lacks_more {at = at} {n = n} v l ls ts rest s =
       let w = first_here arities tokens at n ts rest s in
-      subst (EachRow (λ x. 64 + x ≡ near → ⊥)) (sym w.same) (l w.term _ w.spells beside ls w.others rest (record { ranked = w.ranked; reads = v.rest w.term _ w.spells }))
+      subst (EachRow (λ x. near ≡ Some (64 + x) → ⊥)) (sym w.same) (l w.term _ w.spells beside ls w.others rest (record { ranked = w.ranked; reads = v.rest w.term _ w.spells }))
 
   pub lacks_symbol : {at n : ℕ} → Stands arities tokens at → get_or tokens at 0 < 64 → get_or arities (get_or tokens at 0) 0 ≡ n
       → LacksRow arities tokens near (at + 1) n → Lacks arities tokens near at
@@ -47,7 +49,7 @@ module _ {arities tokens : List ℕ} {near : ℕ} where
       let here = symbol_here arities tokens at (inside s) hs t rest w in
       subst (Without near) (sym here.same) (over (ls here.row rest (rw arity at here.spells)))
 
-module _ (Δ : List Transition) (arities tokens : List ℕ) (k near : ℕ) where
+module _ (Δ : List Transition) (arities tokens : List ℕ) (k : ℕ) (near : Option ℕ) where
   -- Nothing is kept where no entry is made.
   pub kept_none : (m : List (List ℕ)) (ends : List ℕ) → ((p : ℕ) → get_or ends p 0 ≡ 0) → Kept Δ arities tokens k near m ends
   kept_none m ends z = record {
@@ -57,9 +59,9 @@ module _ (Δ : List Transition) (arities tokens : List ℕ) (k near : ℕ) where
   }
 
   -- What is kept stays right when the variable `near` gets another set.
-  module _ (m after : List (List ℕ)) (ends : List ℕ) (x : ℕ) (is : near ≡ 64 + x) where
-    other : (y : ℕ) → (64 + y ≡ near → ⊥) → (48 + y < 48 + x) ⊎ (48 + x + 1 ≤ 48 + y)
-    other y ne = elim (dec_lt y x) [ yes l ↦ inl (omega arith) | no n ↦ inr (elim (dec_lt x y) [ yes l ↦ omega arith | no n' ↦ absurd (ne (omega arith)) ]) ]
+  module _ (m after : List (List ℕ)) (ends : List ℕ) (x : ℕ) (is : near ≡ Some (64 + x)) where
+    other : (y : ℕ) → (near ≡ Some (64 + y) → ⊥) → (48 + y < 48 + x) ⊎ (48 + x + 1 ≤ 48 + y)
+    other y ne = elim (dec_lt y x) [ yes l ↦ inl (omega arith) | no n ↦ inr (elim (dec_lt x y) [ yes l ↦ omega arith | no n' ↦ absurd (ne (is ∙ ap (λ z. Some (64 + z)) (omega arith))) ]) ]
 
     far : (p : ℕ) → p < 48 → (t : Term ℕ) (rest : List Token) → Spells arities tokens p t rest → Without near t → (sheet_of tokens p < 48 + x) ⊎ (48 + x + 1 ≤ sheet_of tokens p)
     far p h t rest s w = elim (dec_lt (get_or tokens p 0) 64) [
@@ -82,7 +84,7 @@ module _ (Δ : List Transition) (arities tokens : List ℕ) (k near : ℕ) where
               let w = old.without p h e t rest s in
               same (sheet_of tokens p) l (far p h t rest s w)
               ∙ old.value p h e t rest s l hl
-              ∙ spanned_same Δ (given k m l) (given k after l) (each_then (λ y. 64 + y ≡ near → ⊥) (λ y. given k m l y ≡ given k after l y) (λ y ne. sym (same (48 + y) l (other y ne))) w);
+              ∙ spanned_same Δ (given k m l) (given k after l) (each_then (λ y. near ≡ Some (64 + y) → ⊥) (λ y. given k m l y ≡ given k after l y) (λ y ne. sym (same (48 + y) l (other y ne))) w);
         }
 
 -- A term that was valued has its value by the sets that the variables have now.
@@ -91,7 +93,7 @@ valued_now : {Δ : List Transition} {arities tokens : List ℕ} {k : ℕ} {m₀ 
 valued_now {Δ = Δ} {arities = arities} {tokens = tokens} {k = k} {m₀ = m₀} {m = m} {at = at} {next = next} s v t rest w l hl =
     v.value t rest w l hl ∙ ap (λ ρ. spanned Δ ρ t) (sym (given_same k at next m₀ m v.outside (valued_room arities tokens Δ k s v) l))
 
-module _ {Δ : List Transition} {arities tokens : List ℕ} {k near : ℕ} where
+module _ {Δ : List Transition} {arities tokens : List ℕ} {k : ℕ} {near : Option ℕ} where
   -- A term that is kept is valued already.
   pub kept_valued : {m : List (List ℕ)} {ends : List ℕ} {at end : ℕ} → Stands arities tokens at → Kept Δ arities tokens k near m ends → end ≡ get_or ends at 0 → 0 < end
       → Valued Δ arities tokens k m at m end

@@ -7,8 +7,7 @@ use Prim.Native.Nat.{ℕ, ◌+◌, ◌/◌, ◌%◌, ◌≤◌, ◌<◌}
 use native.Mathlib.Omega.{arith}
 use lib.Bits.{bit_and, bit_or}
 use lib.ListN.{length, get_or, set, replicate, length-set, get_or-replicate}
-use lib.Seq.{get_or-set_same, get_or-set_other}
-use borrow.Author.Count.{below_more}
+use lib.Seq.{get_or-set_other}
 use borrow.Author.Tests.{lt-ltb}
 use Rattle.theory.proofs.Bools.{zero_at}
 use Rattle.sets.specs.Sets.{Set, mem, all_mask}
@@ -22,18 +21,6 @@ use Rattle.values.specs.Rows.{all_lit, Within}
 pub record Each (f : ℕ → ℕ) (r : List ℕ) (y : ℕ) : Type 0 where
   pub long : length r ≡ 8
   pub done : (x : ℕ) → x < y → get_or r x 0 ≡ f x
-
-pub none_yet : (f : ℕ → ℕ) (r : List ℕ) → length r ≡ 8 → Each f r 0
-none_yet f r long = record { long = long; done = λ x h. omega arith }
-
-pub one_more : (f : ℕ → ℕ) (r : List ℕ) (y : ℕ) → y < 8 → Each f r y → Each f (set r y (f y)) (y + 1)
-one_more f r y hy all =
-    record {
-      long = length-set r y (f y) ∙ all.long;
-      done =
-          below_more _ y (λ x h. get_or-set_other r y x (f y) 0 (λ s. omega arith) ∙ all.done x h)
-          (get_or-set_same r y (f y) 0 (omega (arith, all.long)));
-    }
 
 -- Each lane of a row that is made.
 made_lit : (f : ℕ → ℕ) (r : List ℕ) (y : ℕ) → 8 ≤ y → Each f r y → (l : ℕ) → l < 512 → lit r l ≡ mem (f (l / 64)) (l % 64)

@@ -8,6 +8,8 @@ use native.Mathlib.Omega.{arith}
 use lib.ListN.{length, get_or, set, take}
 use Rattle.sets.specs.Sets.{Set}
 use Rattle.woven.proofs.Indexing.{within}
+use Rattle.std.specs.declared.option.Option.{Option}
+use Rattle.woven.specs.Ready.{Ready}
 use Rattle.values.specs.Lanes.{sheet_of}
 use Rattle.values.specs.Rows.{Room, Apart, Gatherable, Gathered}
 use Rattle.values.specs.Standing.{Stands, Kept, Noted, Valuable, Valued}
@@ -24,12 +26,12 @@ abbrev pub Behind : (at r : ℕ) → Type 0
 Behind at r = (at < r) × (r < 52)
 
 -- Some arguments are left to value: a row of terms at a place.
-pub record Ahead (arities words heads tokens : List ℕ) (near k p left : ℕ) (ends : List ℕ) (m : List (List ℕ)) : Type 0 where
+pub record Ahead (arities words heads tokens : List ℕ) (near : Option ℕ) (k p left : ℕ) (ends : List ℕ) (m : List (List ℕ)) : Type 0 where
   pub row : StandsRow arities tokens p left
   pub room : 52 * k ≤ length m
   pub kept : Kept (moves arities words heads) arities tokens k near m ends
 
-module _ {arities words heads tokens : List ℕ} {near k : ℕ} where
+module _ {arities words heads tokens : List ℕ} {near : Option ℕ} {k : ℕ} where
   pub ahead_first : {at n : ℕ} {ends : List ℕ} {m : List (List ℕ)} → Valuable arities words heads tokens near k at ends m → get_or tokens at 0 < 64 → n ≡ get_or arities (get_or tokens at 0) 0
       → Ahead arities words heads tokens near k (at + 1) n ends m
   ahead_first {at = at} v hs e = record { row = rw e (subterms arities tokens at (get_or arities (get_or tokens at 0) 0) v.stands hs refl); room = v.room; kept = v.kept }
@@ -44,14 +46,14 @@ module _ {arities words heads tokens : List ℕ} {near k : ℕ} where
     ahead_next (v, kept) = record { row = others_stand arities tokens (moves arities words heads) k some v a.row; room = omega (arith, a.room, v.long); kept = kept }
 
     pub ahead_valuable : {at : ℕ} {ends₀ : List ℕ} {m₀ : List (List ℕ)} → Valuable arities words heads tokens near k at ends₀ m₀ → Valuable arities words heads tokens near k p ends m
-    ahead_valuable v = record { ready = v.ready; tokens_long = v.tokens_long; stands = ahead_stands; room = a.room; kept = a.kept }
+    ahead_valuable v = record { tokens_long = v.tokens_long; stands = ahead_stands; room = a.room; kept = a.kept }
 
     -- Its sheet lies behind those of the places before it.
     pub ahead_behind : {r : ℕ} → r ≡ sheet_of tokens p → (at : ℕ) → at < p → Behind at r
     ahead_behind e at h = let here = within_room ahead_stands in (⊎_elim (λ w. omega arith) (λ w. omega arith) (sheet_where tokens p), omega (arith, sheet_room arities tokens p ahead_stands))
 
 -- A symbol's arguments are valued one after the other: what is known after the first, the second and the third.
-module _ {arities words heads tokens : List ℕ} {near k at n : ℕ} {ends : List ℕ} {m : List (List ℕ)} (v : Valuable arities words heads tokens near k at ends m)
+module _ {arities words heads tokens : List ℕ} {near : Option ℕ} {k at n : ℕ} {ends : List ℕ} {m : List (List ℕ)} (v : Valuable arities words heads tokens near k at ends m)
     (hs : get_or tokens at 0 < 64) (e : n ≡ get_or arities (get_or tokens at 0) 0) where
   module _ {next : ℕ} {ends' : List ℕ} {m' : List (List ℕ)} (some : 0 < n)
       (w : Valued (moves arities words heads) arities tokens k m (at + 1) m' next × Kept (moves arities words heads) arities tokens k near m' ends') where
@@ -69,18 +71,19 @@ module _ {arities words heads tokens : List ℕ} {near k at n : ℕ} {ends : Lis
       after_third last w₃ = ahead_next after_second last w₃
 
 -- A symbol's words may be gathered into its sheet.
-module _ {arities words heads tokens : List ℕ} {near k at n : ℕ} {ends : List ℕ} {m mid : List (List ℕ)} (v : Valuable arities words heads tokens near k at ends m)
+module _ {arities words heads tokens : List ℕ} {near : Option ℕ} {k at n : ℕ} {ends : List ℕ} {m mid : List (List ℕ)} (ready : Ready arities words heads k)
+    (v : Valuable arities words heads tokens near k at ends m)
     (hs : get_or tokens at 0 < 64) (arity : get_or arities (get_or tokens at 0) 0 ≡ n) (long : 52 * k ≤ length mid) where
   gatherable : (kids : List ℕ) → ((j : ℕ) → j < n → Room k mid (get_or kids j 0)) → ((j : ℕ) → j < n → Apart k (get_or kids j 0) (at * k))
       → Gatherable words heads (get_or tokens at 0) n k mid kids (at * k)
   gatherable kids kr ka = let f = get_or tokens at 0 in record {
-    indexed = v.ready.indexed;
+    indexed = ready.indexed;
     symbol = hs;
-    few = omega (arith, v.ready.ranks f);
-    target = λ i lo hi. v.ready.target i (omega (arith, within words heads v.ready.indexed f hs));
+    few = omega (arith, ready.ranks f);
+    target = λ i lo hi. ready.target i (omega (arith, within words heads ready.indexed f hs));
     argument = λ i j lo hi hj.
-        v.ready.argument i j (omega (arith, within words heads v.ready.indexed f hs))
-        (omega (arith, ap (λ g. get_or arities g 0) (v.ready.indexed.sorted.own f i hs lo hi)));
+        ready.argument i j (omega (arith, within words heads ready.indexed f hs))
+        (omega (arith, ap (λ g. get_or arities g 0) (ready.indexed.sorted.own f i hs lo hi)));
     kids_room = kr;
     kids_apart = ka;
     out_room = room k at (omega (arith, within_room v.stands)) long;
@@ -92,8 +95,8 @@ module _ {arities words heads tokens : List ℕ} {near k at n : ℕ} {ends : Lis
   pub gatherable_three : (a b c : ℕ) → Behind at a → Behind at b → Behind at c → Gatherable words heads (get_or tokens at 0) n k mid (a * k ∷ (b * k ∷ (c * k ∷ []))) (at * k)
   gatherable_three a b c ha hb hc =
       gatherable (a * k ∷ (b * k ∷ (c * k ∷ [])))
-      (λ j h. three (Room k mid) j (omega (arith, v.ready.ranks (get_or tokens at 0))) (roomy a ha) (roomy b hb) (roomy c hc))
-      (λ j h. three (λ x. Apart k x (at * k)) j (omega (arith, v.ready.ranks (get_or tokens at 0))) (off a ha) (off b hb) (off c hc))
+      (λ j h. three (Room k mid) j (omega (arith, ready.ranks (get_or tokens at 0))) (roomy a ha) (roomy b hb) (roomy c hc))
+      (λ j h. three (λ x. Apart k x (at * k)) j (omega (arith, ready.ranks (get_or tokens at 0))) (off a ha) (off b hb) (off c hc))
     where
       roomy : (r : ℕ) → Behind at r → Room k mid (r * k)
       roomy r h = room k r h.1 long
@@ -108,7 +111,7 @@ module _ {arities words heads tokens : List ℕ} {near k at n : ℕ} {ends : Lis
       three P (suc (suc (suc j))) h pa pb pc = absurd (omega arith)
 
 -- The symbol's sheet is filled, and what is kept stays right; it is kept too where its arguments are.
-module _ {arities words heads tokens : List ℕ} {near k : ℕ} {m : List (List ℕ)} {at n : ℕ} {bs kids : List ℕ} {mid after : List (List ℕ)} {next : ℕ} {ends : List ℕ}
+module _ {arities words heads tokens : List ℕ} {near : Option ℕ} {k : ℕ} {m : List (List ℕ)} {at n : ℕ} {bs kids : List ℕ} {mid after : List (List ℕ)} {next : ℕ} {ends : List ℕ}
     (s : Stands arities tokens at) (hs : get_or tokens at 0 < 64) (arity : get_or arities (get_or tokens at 0) 0 ≡ n) (pick : (g : ℕ → Set) → take n (map g kids) ≡ map g bs)
     (r : RowValued arities tokens (moves arities words heads) k m (at + 1) n bs mid next)
     (g : Gathered arities words heads (get_or tokens at 0) n k mid kids (at * k) after) (kept : Kept (moves arities words heads) arities tokens k near mid ends) where

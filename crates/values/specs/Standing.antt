@@ -1,12 +1,13 @@
 -- Terms among a rule's 48 tokens, their values lane by lane, and which values are kept.
 use Rattle.std.specs.Prelude.{◌≡◌, ◌⊎◌, List, [], ◌++◌, map, ℕ, ◌+◌, ◌*◌, ◌≤◌, ◌<◌, length, get_or, set, drop}
+use Rattle.std.specs.declared.option.Option.{Option}
+use Rattle.std.specs.declared.option.Option.TheVariants.{Some}
 use Rattle.theory.specs.Term.{Term, Terms, var, node, none, ◌then◌}
 use Rattle.theory.specs.Preorder.{Token, preorder, preorder_all, Ranked, RankedRow}
 use Rattle.theory.specs.Rewriting.{Rule}
 use Rattle.theory.specs.Automaton.{Transition}
-use Rattle.paper.specs.Limits.{most_arity}
 use Rattle.tables.specs.Held.{token_of}
-use Rattle.woven.specs.Woven.{part, woven_moves, Indexed}
+use Rattle.woven.specs.Woven.{woven_moves}
 use Rattle.values.specs.Sets.{spanned}
 use Rattle.values.specs.Lanes.{lane, sheet_of, given}
 
@@ -22,9 +23,9 @@ mutual
     empty : EachRow P none
     ◌beside◌ : {t : Term ℕ} {ts : Terms ℕ} → Each P t → EachRow P ts → EachRow P (t then ts)
 
--- The variable whose token is `near` is not in the term.
-abbrev pub Without : ℕ → Term ℕ → Type 0
-Without near = Each (λ x. 64 + x ≡ near → ⊥)
+-- The variable whose token is `near`, if there is one, is not in the term.
+abbrev pub Without : Option ℕ → Term ℕ → Type 0
+Without near = Each (λ x. near ≡ Some (64 + x) → ⊥)
 
 -- The tokens from a place on begin with those of the term t, whose symbols have their arities, and go on with `rest`.
 pub record Spells (arities tokens : List ℕ) (at : ℕ) (t : Term ℕ) (rest : List Token) : Type 0 where
@@ -53,18 +54,9 @@ pub record Spelled (arities tokens : List ℕ) (rule : Rule) : Type 0 where
   pub left_four : Each (λ x. x < 4) rule.left
   pub right_four : Each (λ x. x < 4) rule.right
 
--- What every valuation relies on: the words by symbol, their classes below k, the arities, and k.
-pub record Ready (arities words heads : List ℕ) (k : ℕ) : Type 0 where
-  pub indexed : Indexed words heads
-  pub target : (i : ℕ) → i < get_or heads 64 0 → part (get_or words i 0) 3 < k
-  pub argument : (i j : ℕ) → i < get_or heads 64 0 → j < get_or arities (part (get_or words i 0) 4) 0 → part (get_or words i 0) j < k
-  pub ranks : (f : ℕ) → get_or arities f 0 ≤ most_arity
-  pub some : 1 ≤ k
-  pub most : k ≤ 64
-
 -- The values of some subterms are kept: where `ends` has a number other than 0 at a place, the term there ends before that place, is without the variable `near`,
 -- and its sheet has its value in each lane.
-pub record Kept (Δ : List Transition) (arities tokens : List ℕ) (k near : ℕ) (m : List (List ℕ)) (ends : List ℕ) : Type 0 where
+pub record Kept (Δ : List Transition) (arities tokens : List ℕ) (k : ℕ) (near : Option ℕ) (m : List (List ℕ)) (ends : List ℕ) : Type 0 where
   pub end : (p : ℕ) → p < 48 → 0 < get_or ends p 0 → (t : Term ℕ) (rest : List Token) → Spells arities tokens p t rest
       → get_or ends p 0 ≡ p + length (preorder t)
   pub without : (p : ℕ) → p < 48 → 0 < get_or ends p 0 → (t : Term ℕ) (rest : List Token) → Spells arities tokens p t rest → Without near t
@@ -84,9 +76,8 @@ pub data Noted (ends : List ℕ) (at a b c next : ℕ) (after : List ℕ) : Type
   unchanged : after ≡ ends → Noted ends at a b c next after
   noted : 0 < get_or ends a 0 → 0 < get_or ends b 0 → 0 < get_or ends c 0 → after ≡ set ends at next → Noted ends at a b c next after
 
--- What valuing the term at a place relies on: the tables, a rule's tokens with a term at that place, room for all sheets, and what is kept.
-pub record Valuable (arities words heads tokens : List ℕ) (near k at : ℕ) (ends : List ℕ) (m : List (List ℕ)) : Type 0 where
-  pub ready : Ready arities words heads k
+-- What valuing the term at a place relies on: a rule's tokens with a term at that place, room for all sheets, and what is kept.
+pub record Valuable (arities words heads tokens : List ℕ) (near : Option ℕ) (k at : ℕ) (ends : List ℕ) (m : List (List ℕ)) : Type 0 where
   pub tokens_long : length tokens ≡ 48
   pub stands : Stands arities tokens at
   pub room : 52 * k ≤ length m

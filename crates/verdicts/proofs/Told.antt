@@ -1,20 +1,26 @@
 -- An answer of the code is fixed by what it says: two that say the same are equal.
 use mathlib.Core.Path.{◌≡◌, refl, sym, ap, ◌∙◌}
 use mathlib.Core.List.{List, [], ◌∷◌}
-use mathlib.Core.Option.{some}
-use Prim.Native.Nat.{ℕ, zero, suc, ◌<◌}
+use Prim.Native.Nat.{ℕ, zero, suc, ◌<◌, ◌≤◌}
 use native.Mathlib.Omega.{arith}
 use native.Mathlib.Decide.{ℕ_discrete}
 use borrow.Author.Tests.{eq-eqb, ne_eqb}
 use lib.ListN.{get_or}
-use Rattle.paper.specs.Format.{line_at, line_number}
+use Rattle.std.proofs.Math.Option.{Option as Maybe}
+use Rattle.std.specs.declared.option.Option.{Option}
+use Rattle.std.specs.declared.option.Option.TheVariants.{None, Some}
+use Rattle.std.specs.declared.result.Result.{Result}
+use Rattle.std.specs.declared.result.Result.TheVariants.{Ok, Err}
 use Rattle.paper.specs.Meaning.{Sharing as PaperSharing, Closure as PaperClosure, Asked}
+use Rattle.verdicts.specs.declared.refusals.Reason.{Reason}
+use Rattle.verdicts.specs.declared.refusals.Reason.TheVariants.{ShortBuffer, TooLong, NoLine, NoValue, OutOfRange, WrongCount, Unordered, NoTerm, LeftVariables, UnknownVariable, Misnumbered}
+use Rattle.verdicts.specs.declared.refusals.Refusal.{Refusal}
 use Rattle.verdicts.specs.declared.CriticalPair.{CriticalPair}
-use Rattle.verdicts.specs.declared.Sharing.{Sharing}
-use Rattle.verdicts.specs.declared.Sharing.TheVariants.{Pair, Nothing, Refused as SharingRefused}
+use Rattle.verdicts.specs.declared.FinalPair.{FinalPair}
 use Rattle.verdicts.specs.declared.Closure.{Closure}
-use Rattle.verdicts.specs.declared.Closure.TheVariants.{Critical, Closed, Stopped, Refused as ClosureRefused}
-use Rattle.verdicts.specs.Said.{class_then, classes_of, said_sharing, said_closure, Ended, EndedIn, Tells}
+use Rattle.verdicts.specs.declared.Closure.TheVariants.{Critical, Closed, Stopped}
+use Rattle.verdicts.specs.Refused.{number, reason_of, said_line, line_of, refusal_of, asked}
+use Rattle.verdicts.specs.Said.{class_then, classes_of, said_sharing, said_closure, Ended, EndedIn, Tells, TellsOfFile}
 
 -- A class number, or 255, is what stands first of its list ..
 first_class : (x : ℕ) (xs : List ℕ) → get_or (class_then x xs) 0 255 ≡ x
@@ -50,43 +56,90 @@ classes_are p e = record {
       (λ h. e.after_x2 (e.after_x1 (e.after_x0 h)));
 }
 
--- A line has its number ..
-pub line_back_lem : (line : ℕ) → line_number (line_at line) ≡ line
-unfolding line_at line_number
-line_back_lem zero = refl
-line_back_lem (suc n) = refl
+-- A reason has its number ..
+pub reason_back : (r : Reason) → reason_of (number r) ≡ r
+unfolding number reason_of
+reason_back ShortBuffer = refl
+reason_back TooLong = refl
+reason_back NoLine = refl
+reason_back NoValue = refl
+reason_back OutOfRange = refl
+reason_back WrongCount = refl
+reason_back Unordered = refl
+reason_back NoTerm = refl
+reason_back LeftVariables = refl
+reason_back UnknownVariable = refl
+reason_back Misnumbered = refl
 
--- .. and one that is not 0 is a line.
-pub line_is : (line : ℕ) → (line ≡ 0 → ⊥) → line_at line ≡ some line
-unfolding line_at
-line_is zero n = absurd (n refl)
-line_is (suc line) n = refl
+-- .. and each number from 1 to 11 its reason.
+pub number_back : (n : ℕ) → 1 ≤ n → n ≤ 11 → number (reason_of n) ≡ n
+unfolding number reason_of
+number_back zero low high = absurd (omega arith)
+number_back (suc zero) low high = refl
+number_back (suc (suc zero)) low high = refl
+number_back (suc (suc (suc zero))) low high = refl
+number_back (suc (suc (suc (suc zero)))) low high = refl
+number_back (suc (suc (suc (suc (suc zero))))) low high = refl
+number_back (suc (suc (suc (suc (suc (suc zero)))))) low high = refl
+number_back (suc (suc (suc (suc (suc (suc (suc zero))))))) low high = refl
+number_back (suc (suc (suc (suc (suc (suc (suc (suc zero)))))))) low high = refl
+number_back (suc (suc (suc (suc (suc (suc (suc (suc (suc zero))))))))) low high = refl
+number_back (suc (suc (suc (suc (suc (suc (suc (suc (suc (suc zero)))))))))) low high = refl
+number_back (suc (suc (suc (suc (suc (suc (suc (suc (suc (suc (suc zero))))))))))) low high = refl
+number_back (suc (suc (suc (suc (suc (suc (suc (suc (suc (suc (suc (suc n)))))))))))) low high = absurd (omega arith)
+
+-- What says the line is this line.
+pub line_back : (line : Option ℕ) → line_of (said_line line) ≡ line
+unfolding line_of said_line
+line_back None = refl
+line_back (Some line) = refl
+
+pub said_back : (line : Maybe ℕ) → said_line (line_of line) ≡ line
+unfolding line_of said_line
+said_back Maybe.none = refl
+said_back (Maybe.some line) = refl
+
+-- A refusal is fixed by its number and its line.
+pub refusal_back : (r : Refusal) → refusal_of (number r.reason) (said_line r.line) ≡ r
+unfolding refusal_of
+refusal_back r = λ i. record { reason = reason_back r.reason i; line = line_back r.line i }
 
 -- The answer to the first question that says s: what says s is this.
-abbrev sharing_for : Asked PaperSharing → Sharing
-sharing_for (Asked.refused number line) = SharingRefused number (line_number line)
-sharing_for (Asked.answered (PaperSharing.shared class bad)) = Pair class bad
-sharing_for (Asked.answered PaperSharing.nothing) = Nothing
+abbrev sharing_for : PaperSharing → Option FinalPair
+sharing_for (PaperSharing.shared class bad) = Some (record { class = class; bad = bad })
+sharing_for PaperSharing.nothing = None
 
-sharing_back : (a : Sharing) → sharing_for (said_sharing a) ≡ a
+sharing_back : (a : Option FinalPair) → sharing_for (said_sharing a) ≡ a
 unfolding said_sharing
-sharing_back (Pair class bad) = refl
-sharing_back Nothing = refl
-sharing_back (SharingRefused number line) = ap (SharingRefused number) (line_back_lem line)
+sharing_back (Some pair) = refl
+sharing_back None = refl
 
 -- Two answers to the first question that say the same are equal.
-pub one_sharing : (a b : Sharing) → said_sharing a ≡ said_sharing b → a ≡ b
+pub one_sharing : (a b : Option FinalPair) → said_sharing a ≡ said_sharing b → a ≡ b
 one_sharing a b e = sym (sharing_back a) ∙ (ap sharing_for e ∙ sharing_back b)
+
+-- The same of a file's: what says s is this.
+abbrev sharing_of_file : Asked PaperSharing → Result (Option FinalPair) Refusal
+sharing_of_file (Asked.refused number line) = Err (refusal_of number line)
+sharing_of_file (Asked.answered s) = Ok (sharing_for s)
+
+sharing_of_file_back : (a : Result (Option FinalPair) Refusal) → sharing_of_file (asked said_sharing a) ≡ a
+unfolding asked
+sharing_of_file_back (Ok a) = ap Ok (sharing_back a)
+sharing_of_file_back (Err r) = ap Err (refusal_back r)
+
+-- Two of a file that say the same are equal.
+pub one_sharing_of_file : (a b : Result (Option FinalPair) Refusal) → asked said_sharing a ≡ asked said_sharing b → a ≡ b
+one_sharing_of_file a b e = sym (sharing_of_file_back a) ∙ (ap sharing_of_file e ∙ sharing_of_file_back b)
 
 -- The same of the second.
 abbrev pair_for : (rule : ℕ) → (xs : List ℕ) → (class : ℕ) → CriticalPair
 pair_for rule xs class = record { rule = rule; x0 = get_or xs 0 255; x1 = get_or xs 1 255; x2 = get_or xs 2 255; x3 = get_or xs 3 255; class = class }
 
-abbrev closure_for : Asked PaperClosure → Closure
-closure_for (Asked.refused number line) = ClosureRefused number (line_number line)
-closure_for (Asked.answered (PaperClosure.critical rule xs class n)) = Critical (pair_for rule xs class) n
-closure_for (Asked.answered (PaperClosure.closed n)) = Closed n
-closure_for (Asked.answered (PaperClosure.stopped n)) = Stopped n
+abbrev closure_for : PaperClosure → Closure
+closure_for (PaperClosure.critical rule xs class n) = Critical (pair_for rule xs class) n
+closure_for (PaperClosure.closed n) = Closed n
+closure_for (PaperClosure.stopped n) = Stopped n
 
 pair_back : (p : CriticalPair) → Ended p → pair_for p.rule (classes_of p) p.class ≡ p
 pair_back p e =
@@ -98,8 +151,20 @@ unfolding said_closure EndedIn
 closure_back (Critical pair n) e = ap (λ p. Critical p n) (pair_back pair e)
 closure_back (Closed n) e = refl
 closure_back (Stopped n) e = refl
-closure_back (ClosureRefused number line) e = ap (ClosureRefused number) (line_back_lem line)
 
 -- Two answers to the second that tell the same are equal.
-pub one_closure : (k : Asked PaperClosure) (a b : Closure) → Tells k a → Tells k b → a ≡ b
+pub one_closure : (k : PaperClosure) (a b : Closure) → Tells k a → Tells k b → a ≡ b
 one_closure k a b s t = sym (closure_back a s.ended) ∙ (ap closure_for (s.says ∙ sym t.says) ∙ closure_back b t.ended)
+
+-- The same of a file's.
+abbrev closure_of_file : Asked PaperClosure → Result Closure Refusal
+closure_of_file (Asked.refused number line) = Err (refusal_of number line)
+closure_of_file (Asked.answered k) = Ok (closure_for k)
+
+closure_of_file_back : (k : Asked PaperClosure) (a : Result Closure Refusal) → TellsOfFile k a → closure_of_file k ≡ a
+unfolding TellsOfFile
+closure_of_file_back k (Ok a) t = ap closure_of_file t.0 ∙ ap Ok (closure_back a t.1)
+closure_of_file_back k (Err r) t = ap closure_of_file t ∙ ap Err (refusal_back r)
+
+pub one_closure_of_file : (k : Asked PaperClosure) (a b : Result Closure Refusal) → TellsOfFile k a → TellsOfFile k b → a ≡ b
+one_closure_of_file k a b s t = sym (closure_of_file_back k a s) ∙ closure_of_file_back k b t

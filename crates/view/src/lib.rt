@@ -18,44 +18,43 @@ pub struct View<'a> {
 pub fn left_at(file: &[u8], at: usize) -> usize
     ensures { result ≡ length (drop at file.now) }
 {
-    if at < file.len() {
-        return file.len() - at;
+    file.len().saturating_sub(at)
+}
+
+impl<'a> View<'a> {
+    // A view at the start of a file: its first line is line 1.
+    pub fn over(file: &'a [u8]) -> View<'a>
+        ensures { (result.file ≡ file.entry) × (result.at ≡ 0) × (result.line ≡ 1) }
+    {
+        View {
+            file,
+            at: 0,
+            line: 1,
+        }
     }
-    0
-}
 
-// A view at the start of a file: its first line is line 1.
-pub fn over<'a>(file: &'a [u8]) -> View<'a>
-    ensures { (result.file ≡ file.entry) × (result.at ≡ 0) × (result.line ≡ 1) }
-{
-    View {
-        file,
-        at: 0,
-        line: 1,
+    // Its place.
+    pub fn place(self) -> usize
+        ensures { result ≡ self.entry.at }
+    {
+        self.at
     }
-}
 
-// Its place.
-pub fn place<'a>(v: View<'a>) -> usize
-    ensures { result ≡ v.entry.at }
-{
-    v.at
-}
+    // How many bytes are left.
+    pub fn left(self) -> usize
+        ensures { result ≡ length (drop self.entry.at self.entry.file.now) }
+    {
+        left_at(self.file, self.at)
+    }
 
-// How many bytes are left.
-pub fn left<'a>(v: View<'a>) -> usize
-    ensures { result ≡ length (drop v.entry.at v.entry.file.now) }
-{
-    left_at(v.file, v.at)
-}
-
-// A view of the same file at the next line.
-pub fn go_on<'a>(v: View<'a>, next: Cursor) -> View<'a>
-    ensures { (result.file ≡ v.entry.file) × (result.at ≡ next.at) × (result.line ≡ next.line) }
-{
-    View {
-        file: v.file,
-        at: next.at,
-        line: next.line,
+    // A view of the same file at the next line.
+    pub fn go_on(self, next: Cursor) -> View<'a>
+        ensures { (result.file ≡ self.entry.file) × (result.at ≡ next.at) × (result.line ≡ next.line) }
+    {
+        View {
+            file: self.file,
+            at: next.at,
+            line: next.line,
+        }
     }
 }

@@ -1,19 +1,19 @@
 -- Bytes put one after the other.
 use mathlib.Core.Path.{◌≡◌, refl, sym, ap, ◌∙◌}
-use mathlib.Core.List.{List, [], ◌∷◌, ◌++◌, append-nil}
-use Prim.Native.Nat.{ℕ, suc, ◌+◌, ◌-◌, ◌<◌}
+use mathlib.Core.List.{List, [], ◌∷◌, ◌++◌, append-nil, append_assoc}
+use Prim.Native.Nat.{ℕ, suc, ◌+◌, ◌<◌}
 use native.Mathlib.Nat.{add-zero, add-suc, suc-add}
 use native.Mathlib.Numerals.{add-one}
 use native.Mathlib.Omega.{arith}
 use borrow.Author.Tests.{eq-eqb, ne_eqb}
-use lib.ListN.{length, get_or, take, drop, set, length-append, length-drop}
-use lib.Seq.{sets, length-sets, take_all, drop-cons}
+use lib.ListN.{length, get_or, drop, set, length-append}
+use lib.Seq.{sets, length-sets, drop-cons}
 use Rattle.paper.specs.Bytes.{comma}
 use Rattle.paper.specs.Answer.{decimal, decimals}
 use Rattle.verdicts.specs.Said.{class_then}
 use Rattle.writing.specs.Put.{Put, Room}
 
-pub sets_append : (a b d : List ℕ) (at : ℕ) → sets (sets d at a) (at + length a) b ≡ sets d at (a ++ b)
+sets_append : (a b d : List ℕ) (at : ℕ) → sets (sets d at a) (at + length a) b ≡ sets d at (a ++ b)
 sets_append [] b d at = rw add-zero
 sets_append (x ∷ a) b d at = rw (add-suc, ← suc-add) (sets_append a b (set d at x) (suc at))
 
@@ -35,24 +35,37 @@ pub stored : (d : List ℕ) (at x : ℕ) → Put d at (x ∷ []) (at + 1) (set d
 stored d at x = record { place = refl; holds = refl }
 
 -- The buffer stays as long as it was.
-pub length_put : {d e bs : List ℕ} {at n : ℕ} → Put d at bs n e → length e ≡ length d
+length_put : {d e bs : List ℕ} {at n : ℕ} → Put d at bs n e → length e ≡ length d
 length_put {d} {e} {bs} {at} p = ap length p.holds ∙ length-sets d at bs
 
--- There is room for the first part of what is to be put.
-pub front : {d a : List ℕ} {at : ℕ} (b : List ℕ) → Room d at (a ++ b) → Room d at a
-front {d} {a} b h = record { fits = omega (arith, h.fits, length-append a b) }
+-- Of the bytes of `all` some are put, and those of `left` are still to be put.
+pub record Putting (was : List ℕ) (at : ℕ) (all : List ℕ) (next : ℕ) (is left : List ℕ) : Type 0 where
+  pub done : List ℕ
+  pub put : Put was at done next is
+  pub whole : done ++ left ≡ all
+  pub room : Room was at all
 
--- After the first part there is room for the rest.
-pub room : {d e a : List ℕ} {at n : ℕ} → Put d at a n e → (rest : List ℕ) → Room d at (a ++ rest) → Room e n rest
-room {d} {e} {a} {at} p rest h = record { fits = omega (arith, p.place, length_put p, length-append a rest, h.fits) }
+pub begun : {was all : List ℕ} {at : ℕ} → Room was at all → Putting was at all at was all
+begun {was} {all} {at} h = record { done = []; put = nothing was at; whole = refl; room = h }
 
--- A turn of the copy: what is left to store gives the same.
-pub copied_one : (d bs : List ℕ) (o i : ℕ) → i < length bs → sets (set d o (get_or bs i 0)) (o + 1) (drop (i + 1) bs) ≡ sets d o (drop i bs)
-copied_one d bs o i h = rw (drop-cons bs i 0 h, add-one o, add-one i)
+module _ {was all is left : List ℕ} {at next : ℕ} (p : Putting was at all next is left) where
+  -- Nothing is left: all is put.
+  pub ended : left ≡ [] → Put was at all next is
+  ended e = said_as (sym (append-nil p.done) ∙ ap (λ (bs : List ℕ). p.done ++ bs) (sym e) ∙ p.whole) p.put
 
--- A part up to the end is all from its start on.
-pub to_end : (l : List ℕ) (n k : ℕ) → length l ≡ n → take (n - k) (drop k l) ≡ drop k l
-to_end l n k e = take_all (n - k) (drop k l) (omega (arith, length-drop k l))
+  module _ {bs : List ℕ} (more : List ℕ) (e : left ≡ bs ++ more) where
+    -- There is room for what stands first in it, ..
+    pub room : Room is next bs
+    room = record { fits = omega (arith, p.put.place, length_put p.put, ap length p.whole, ap length e, length-append p.done left, length-append bs more, p.room.fits) }
+
+    -- .. and what stands behind is left when that is put.
+    pub go_on : {now : List ℕ} {n : ℕ} → Put is next bs n now → Putting was at all n now more
+    go_on q = record {
+      done = p.done ++ bs;
+      put = p.put then q;
+      whole = append_assoc p.done bs more ∙ ap (λ (ds : List ℕ). p.done ++ ds) (sym e) ∙ p.whole;
+      room = p.room;
+    }
 
 -- The numbers after the first of a list, each behind its comma.
 unfoldable pub commaed : List ℕ → List ℕ
@@ -72,33 +85,28 @@ a_class : (x : ℕ) (xs : List ℕ) → (x ≡ 255 → ⊥) → class_then x xs 
 unfolding class_then
 a_class x xs h = rw (ne_eqb x 255 h, class_then)
 
-module _ (x : ℕ) (xs : List ℕ) where
-  first_same : (x ≡ 255 → ⊥) → decimals (class_then x xs) ≡ decimal x ++ commaed xs
-  first_same h = ap decimals (a_class x xs h) ∙ decimals_commaed x xs
+-- No class at all, or a first and the others.
+pub no_first : (x : ℕ) (xs : List ℕ) → x ≡ 255 → decimals (class_then x xs) ≡ []
+unfolding decimals
+no_first x xs e = ap decimals (no_class x xs e)
 
-  next_same : (x ≡ 255 → ⊥) → commaed (class_then x xs) ≡ (comma ∷ decimal x) ++ commaed xs
+pub a_first : (x : ℕ) (xs : List ℕ) → (x ≡ 255 → ⊥) → decimals (class_then x xs) ≡ decimal x ++ commaed xs
+a_first x xs h = ap decimals (a_class x xs h) ∙ decimals_commaed x xs
+
+-- The classes before the first 255.
+abbrev pub before_none : List ℕ → List ℕ
+before_none [] = []
+before_none (x ∷ xs) = class_then x (before_none xs)
+
+-- From a place on there is no class more, or one behind its comma and the later ones.
+module _ (xs : List ℕ) (i : ℕ) (h : i < length xs) where
+  from_here : before_none (drop i xs) ≡ class_then (get_or xs i 0) (before_none (drop (i + 1) xs))
+  from_here = rw (drop-cons xs i 0 h, add-one i)
+
+  pub no_next : get_or xs i 0 ≡ 255 → commaed (before_none (drop i xs)) ≡ []
   unfolding commaed
-  next_same h = ap commaed (a_class x xs h)
+  no_next e = ap commaed (from_here ∙ no_class (get_or xs i 0) _ e)
 
-  -- No class at all, and no more classes.
-  pub no_first : x ≡ 255 → (d : List ℕ) (at : ℕ) → Put d at (decimals (class_then x xs)) at d
-  unfolding decimals
-  no_first e d at = rw (no_class x xs e) (nothing d at)
-
-  pub no_more : x ≡ 255 → (d : List ℕ) (at : ℕ) → Put d at (commaed (class_then x xs)) at d
+  pub a_next : (get_or xs i 0 ≡ 255 → ⊥) → commaed (before_none (drop i xs)) ≡ (comma ∷ decimal (get_or xs i 0)) ++ commaed (before_none (drop (i + 1) xs))
   unfolding commaed
-  no_more e d at = rw (no_class x xs e) (nothing d at)
-
-  -- The first class and the others, and one behind its comma and those after it.
-  pub first_put : (x ≡ 255 → ⊥) → {d e f : List ℕ} {at n m : ℕ} → Put d at (decimal x) n e → Put e n (commaed xs) m f → Put d at (decimals (class_then x xs)) m f
-  first_put h p q = said_as (sym (first_same h)) (p then q)
-
-  pub next_put : (x ≡ 255 → ⊥) → {d e f : List ℕ} {at n m : ℕ} → Put d at (comma ∷ decimal x) n e → Put e n (commaed xs) m f → Put d at (commaed (class_then x xs)) m f
-  next_put h p q = said_as (sym (next_same h)) (p then q)
-
-  -- The same for the room.
-  pub first_room : (x ≡ 255 → ⊥) → {d : List ℕ} {at : ℕ} → Room d at (decimals (class_then x xs)) → Room d at (decimal x ++ commaed xs)
-  first_room h r = rw (first_same h) at r
-
-  pub next_room : (x ≡ 255 → ⊥) → {d : List ℕ} {at : ℕ} → Room d at (commaed (class_then x xs)) → Room d at ((comma ∷ decimal x) ++ commaed xs)
-  next_room h r = rw (next_same h) at r
+  a_next n = ap commaed (from_here ∙ a_class (get_or xs i 0) _ n)

@@ -12,14 +12,9 @@ pub fn put_bytes(out: &mut [u8], at: usize, bs: &[u8]) -> usize
     requires { Room out.old at bs.now }
     ensures { Put out.old at bs.now result out.new }
 {
-    let mut i = 0;
-    let mut o = at;
-    while i < bs.len() {
-        out[o] = bs[i];
-        o += 1;
-        i += 1;
-    }
-    o
+    let end = at + bs.len();
+    out[at..end].copy_from_slice(bs);
+    end
 }
 
 // A number's digits, at the end of ten bytes: no number of 32 bits has more.
@@ -34,15 +29,16 @@ pub fn digits_of(n: u32) -> Digits
     ensures { result ≡ digits_of n }
 {
     let mut bytes = [0u8; 10];
-    let mut start: usize = 9;
     let mut rest = n;
-    while 10 <= rest {
+    for start in (1..10).rev() {
         bytes[start] = digit(rest);
-        rest = rest / 10;
-        start -= 1;
+        if rest < 10 {
+            return Digits { bytes, start };
+        }
+        rest /= 10;
     }
-    bytes[start] = digit(rest);
-    Digits { bytes, start }
+    bytes[0] = digit(rest);
+    Digits { bytes, start: 0 }
 }
 
 // The last digit of a number.
@@ -58,9 +54,7 @@ pub fn put_decimal(out: &mut [u8], at: usize, n: u32) -> usize
     ensures { Put out.old at (decimal n) result out.new }
 {
     let d = digits_of(n);
-    let bytes = d.bytes;
-    let start = d.start;
-    put_bytes(out, at, &bytes[start..])
+    put_bytes(out, at, &d.bytes[d.start..])
 }
 
 // A comma and a number.
@@ -77,24 +71,15 @@ pub fn put_classes(out: &mut [u8], at: usize, pair: CriticalPair) -> usize
     requires { Room out.old at (decimals (classes_of pair)) }
     ensures { Put out.old at (decimals (classes_of pair)) result out.new }
 {
-    let x0 = pair.x0;
-    let x1 = pair.x1;
-    let x2 = pair.x2;
-    let x3 = pair.x3;
-    if x0 == NO_CLASS {
+    if pair.x0 == NO_CLASS {
         return at;
     }
-    let a = put_decimal(out, at, x0 as u32);
-    if x1 == NO_CLASS {
-        return a;
+    let mut end = put_decimal(out, at, pair.x0 as u32);
+    for x in [pair.x1, pair.x2, pair.x3] {
+        if x == NO_CLASS {
+            return end;
+        }
+        end = put_next(out, end, x);
     }
-    let b = put_next(out, a, x1);
-    if x2 == NO_CLASS {
-        return b;
-    }
-    let c = put_next(out, b, x2);
-    if x3 == NO_CLASS {
-        return c;
-    }
-    put_next(out, c, x3)
+    end
 }

@@ -1,10 +1,6 @@
 -- `alike::narrow_all` meets its contract. The invariant: the masks before d are narrowed.
-use Prim.Native.Nat.{◌-◌, ◌≤◌}
 use Rattle.alike.specs.Words.{NarrowedTo}
 use Rattle.alike.proofs.narrow_all.Given as goal
 
 abbrev pub invariant-loop-d : goal.invariant-loop-d
-invariant-loop-d l = (l.d ≤ 64) × NarrowedTo l.set l.initial.same l.d l.same
-
-abbrev pub decreases-loop-d : goal.decreases-loop-d
-decreases-loop-d l = 64 - l.d
+invariant-loop-d l = NarrowedTo l.set l.initial.same l.d l.same

@@ -1,10 +1,6 @@
--- `alike::standing` meets its contract. The invariant: the classes of the words before j are sorted.
-use Prim.Native.Nat.{◌-◌, ◌≤◌}
+-- `alike::standing` meets its contract. The invariant: the classes of the words so far are sorted.
 use Rattle.alike.specs.Words.{Standing}
 use Rattle.alike.proofs.standing.Given as goal
 
-abbrev pub invariant-loop-j : goal.invariant-loop-j
-invariant-loop-j l = (l.from ≤ l.j) × (l.j ≤ l.end) × Standing l.words l.from l.j l.p l.rest l.set
-
-abbrev pub decreases-loop-j : goal.decreases-loop-j
-decreases-loop-j l = l.end - l.j
+abbrev pub invariant-loop-w : goal.invariant-loop-w
+invariant-loop-w l = Standing l.words l.w-index l.p l.rest l.set

@@ -1,36 +1,20 @@
--- The line `merge` and the end of the file, behind tables that were read: each way to end is what paper says of the file.
-use mathlib.Core.Path.{◌∙◌}
-use Rattle.blocks.specs.Packed.{tables_of, no_tables, merging_of, no_merging}
-use Rattle.blocks.proofs.Chain.{handed_at, handed_refused}
-use Rattle.certificate.proofs.File.{stop_read_lem, tables_refused, merge_refused, bytes_follow, all_read, ready_at, went_to}
+-- The line `merge` and the end of the file.
+use Rattle.std.proofs.Common.{arith}
+use Rattle.std.proofs.lemmas.Result.{err_from_is_err_and}
+use Rattle.certificate.specs.Read.{last_lines}
+use Rattle.blocks.specs.Draft.{merge_line}
+use Rattle.blocks.proofs.Chain.{first_stopped}
+use Rattle.certificate.proofs.File.{bytes_follow, nothing_follows}
 use Rattle.certificate.proofs.closing_at.Goals as goal
 
-pub returns-in_default : goal.returns-in_default
-returns-in_default c =
-    let told = c.in_default.is in
-    λ h. stop_read_lem _ _ _ _ c.stopped.ensures told ∙ tables_refused _ _ _ (handed_refused _ tables_of no_tables _ _ _ _ _ h told)
-
-pub read_merge-last-requires : goal.read_merge-last-requires
-read_merge-last-requires c =
-    let b = ready_at _ _ _ _ _ c.requires c.in-At.is in
-    (b.few, b.placed)
-
-pub returns-in_default-reached : goal.returns-in_default-reached
-returns-in_default-reached c =
-    let told = c.in_default-reached.is in
-    λ h.
-    stop_read_lem _ _ _ _ c.stopped-in_default-reached.ensures told
-    ∙ merge_refused _ _ _ (went_to _ _ _ _ _ c.requires c.in-At.is h) _ _ (handed_refused _ merging_of no_merging _ _ _ _ _ c.read_merge-last.ensures told)
+pub returns-in_err-merging : goal.returns-in_err-merging
+unfolding last_lines
+returns-in_err-merging c =
+    let p = err_from_is_err_and c.from_residual.result c.from_residual.ensures.1 in
+    rw (p.1, p.2) (first_stopped (merge_line c.args.states) _ c.in_err-merging.ensures)
 
 pub returns-then-left_at-gt0 : goal.returns-then-left_at-gt0
-returns-then-left_at-gt0 c =
-    λ h.
-    c.refused.ensures
-    ∙ bytes_follow _ _ _ (went_to _ _ _ _ _ c.requires c.in-At.is h) _ _
-    (handed_at _ merging_of no_merging _ _ _ _ c.read_merge-last.ensures c.in-At-reached.is) _ c.left_at.ensures c.if-left_at-gt0.true
+returns-then-left_at-gt0 c = bytes_follow _ _ _ c.in_ok-merging.ensures.is (omega arith) c.on_line.ensures.0 c.on_line.ensures.1
 
 pub returns : goal.returns
-returns c =
-    λ h.
-    all_read _ _ _ (went_to _ _ _ _ _ c.requires c.in-At.is h) _ _
-    (handed_at _ merging_of no_merging _ _ _ _ c.read_merge-last.ensures c.in-At-reached.is) _ c.left_at.ensures c.if-left_at-gt0.false
+returns c = nothing_follows _ _ _ c.in_ok-merging.ensures.is (omega arith) c.in_ok-merging.ensures.packs

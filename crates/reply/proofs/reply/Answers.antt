@@ -4,5 +4,5 @@ use Rattle.reply.proofs.reply.Goals as goal
 
 pub returns : goal.returns
 returns c =
-    let did = c.check-a in
+    let did = c.check in
     placed_answer c.args.file.now c.args.out.now did.result did.new.out did.ensures

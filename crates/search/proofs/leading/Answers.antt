@@ -17,15 +17,6 @@ all_lead M rule x = record { smaller = λ d low out. not_both (mem all_mask d) (
 pub returns-then-v-x : goal.returns-then-v-x
 returns-then-v-x c = λ rule told. all_lead _ rule _
 
-pub returns-then-k-le-FEW : goal.returns-then-k-le-FEW
-returns-then-k-le-FEW c = λ rule told. all_lead _ rule _
-
-pub returns-then-before-eq0 : goal.returns-then-before-eq0
-returns-then-before-eq0 c = λ rule told. all_lead _ rule _
-
-pub needed-requires : goal.needed-requires
-needed-requires c = c.requires
-
 pub returns : goal.returns
 unfolding woven_automaton
 returns c = λ rule told. c.needed.ensures _ rule _ _ told.spelled.left told.spelled.right told.not_bare refl

@@ -14,7 +14,7 @@ returns c =
             early = o.early;
             passed = λ y low gone. elim (o.passed y low gone) [
               | inl calm ↦ inl calm
-              | inr past ↦ inr (led.smaller y (omega (arith, c.requires.0.ready.most)) past)
+              | inr past ↦ inr (led.smaller y (omega (arith, c.args.delta.ready.most)) past)
             ];
           },
       result.1,

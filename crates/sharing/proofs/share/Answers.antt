@@ -1,4 +1,4 @@
--- `sharing::share` meets its contract. The invariant: the pairs hold only pairs that share a tree, and a row that has more to add has a dirty argument.
+-- `sharing::share` meets its contract: no row has been at rest before the first pass, each pass adds a pair or is the last, and at the end every row is.
 use mathlib.Core.Path.{sym, ap, ◌∙◌, subst, refl}
 use Prim.Native.Nat.{ℕ, ◌*◌, ◌^◌, ◌≤◌, ◌<◌}
 use lib.Dec.{lit<}
@@ -17,12 +17,6 @@ loop-dirty-init c = (
   (λ j l s. absurd (s.part mem_all)),
 )
 
-pub slice_bounds-pass-end : goal.slice_bounds-pass-end
-slice_bounds-pass-end c = sym c.loop-dirty.invariant.0
-
-pub pass-dirty-requires : goal.pass-dirty-requires
-pass-dirty-requires c = (c.loop-dirty.invariant.0, c.requires, c.loop-dirty.invariant.3)
-
 pub loop-dirty-smaller : goal.loop-dirty-smaller
 loop-dirty-smaller c =
     let at = c.loop-dirty in
@@ -31,12 +25,6 @@ loop-dirty-smaller c =
     let long = did.ensures.long ∙ at.invariant.0 in
     falls at.pairs did.new.pairs at.dirty did.result c.loop-dirty-test.true
     (subst (λ (n : ℕ). sum did.new.pairs ≤ n * 2 ^ 64) long most) did.ensures.up did.ensures.more
-
-pub loop-dirty-preserved : goal.loop-dirty-preserved
-loop-dirty-preserved c =
-    let at = c.loop-dirty in
-    let did = c.pass-dirty in
-    (did.ensures.long ∙ at.invariant.0, did.ensures.words at.invariant.1, did.ensures.only_shared at.invariant.2, did.ensures.rest)
 
 pub returns : goal.returns
 returns c =

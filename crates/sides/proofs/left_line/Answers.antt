@@ -1,44 +1,22 @@
--- A left side's line: its tokens, one term of them that is no variable, and its variables in order.
-use mathlib.Core.Path.{refl, sym, ◌∙◌}
-use Rattle.fields.specs.Line.{line_row}
-use Rattle.sides.proofs.TokenLines.{TermLine, line_read}
-use Rattle.sides.proofs.SidesTold.{few_tokens, left_refused, left_eight, left_bare, left_broken, left_good}
-use native.Mathlib.Omega.{arith}
+-- A left side's line: one term that is no variable, and its variables in order.
+use Rattle.std.proofs.Common.{sym, ◌∙◌}
+use Rattle.std.proofs.lemmas.Result.{err_from_is_err_and}
+use Rattle.sides.proofs.SidesTold.{left_refused, left_bare, left_broken, left_good}
 use Rattle.sides.proofs.left_line.Goals as goal
-use Rattle.sides.proofs.left_line.Goals.{After-term_line-it}
 
--- what the line of tokens came to
-read : (c : After-term_line-it) → TermLine c.args.file.now c.args.arities.now c.args.symbols (line_row 12) c.args.c c.term_line-it.result
-read c =
-    line_read _ _ _ _ _ _ c.requires.symbols_le_most_symbols c.requires.placed refl refl c.term_line-it.ensures
+pub returns-in_err-it : goal.returns-in_err-it
+returns-in_err-it c =
+    let p = err_from_is_err_and c.from_residual.result c.from_residual.ensures.1 in
+    rw (p.1, p.2) (left_refused _ _ c.requires.le_symbols _ c.in_err-it.ensures)
 
-pub returns-in_default : goal.returns-in_default
-returns-in_default c =
-    left_refused (read (goal.at.returns-in_default c).After-term_line-it) _ _ _ c.in_default.is c.no_side.ensures c.list_refusal.ensures
+pub returns-then-it-ge-VARIABLE : goal.returns-then-it-ge-VARIABLE
+returns-then-it-ge-VARIABLE c = rw c.refuse.ensures (left_bare _ _ c.requires.le_symbols _ c.in_ok-it.ensures c.if-it-ge-VARIABLE.true)
 
-pub is_one_term-requires : goal.is_one_term-requires
-is_one_term-requires c =
-    (omega (arith, few_tokens (read (goal.at.is_one_term-requires c).After-term_line-it) c.in-Got.is), c.requires.symbols_le_most_symbols.1)
+pub returns-in-None : goal.returns-in-None
+returns-in-None c =
+    rw c.refuse-in-None.ensures
+    (left_broken _ _ c.requires.le_symbols _ c.in_ok-it.ensures c.if-it-ge-VARIABLE.false (sym (rw c.tokens_of.ensures at c.line_up.ensures) ∙ c.in-None.is))
 
-pub returns-then-tokens-ge-VARIABLE : goal.returns-then-tokens-ge-VARIABLE
-returns-then-tokens-ge-VARIABLE c =
-    left_bare (read (goal.at.returns-then-tokens-ge-VARIABLE c).After-term_line-it) _ c.in-Got.is
-    (sym c.is_one_term.ensures ∙ c.if-is_one_term.true) c.if-tokens-ge-VARIABLE.true c.no_side-then-tokens-ge-VARIABLE.ensures
-
-pub line_up-o-requires : goal.line_up-o-requires
-line_up-o-requires c =
-    omega (arith, few_tokens (read (goal.at.line_up-o-requires c).After-term_line-it) c.in-Got.is)
-
-pub returns-in_default-o : goal.returns-in_default-o
-returns-in_default-o c =
-    left_broken (read (goal.at.returns-in_default-o c).After-term_line-it) _ c.in-Got.is (sym c.is_one_term.ensures ∙ c.if-is_one_term.true) c.if-tokens-ge-VARIABLE.false
-    (sym c.line_up-o.ensures ∙ c.in_default-o.is) c.no_side-in_default-o.ensures
-
-pub returns-then-is_one_term : goal.returns-then-is_one_term
-returns-then-is_one_term c =
-    left_good (read (goal.at.returns-then-is_one_term c).After-term_line-it) _ c.in-Got.is (sym c.is_one_term.ensures ∙ c.if-is_one_term.true) c.if-tokens-ge-VARIABLE.false _
-    (sym c.line_up-o.ensures ∙ c.in-Count.is) refl
-
-pub returns : goal.returns
-returns c =
-    left_eight (read (goal.at.returns c).After-term_line-it) _ c.in-Got.is (sym c.is_one_term.ensures ∙ c.if-is_one_term.false) c.no_side-2.ensures
+pub returns-in-Some : goal.returns-in-Some
+returns-in-Some c =
+    left_good _ _ c.requires.le_symbols _ c.in_ok-it.ensures c.if-it-ge-VARIABLE.false _ (sym (rw c.tokens_of.ensures at c.line_up.ensures) ∙ c.in-Some.is)

@@ -1,25 +1,18 @@
 -- A pass from the left counts the variables as long as they come in order.
-use mathlib.Core.Path.{sym, ◌∙◌}
-use Rattle.sides.proofs.PassLaws.{lined_more, lined_broken, lined_end, step_most}
-use native.Mathlib.Omega.{arith}
+use Rattle.std.proofs.Common.{arith, sym, ◌∙◌}
+use Rattle.sides.proofs.PassLaws.{lined_more, lined_all, step_most}
 use Rattle.sides.proofs.line_up.Goals as goal
 
-pub next_in_line-o-requires : goal.next_in_line-o-requires
-next_in_line-o-requires c =
-    omega (arith, c.requires, c.loop-i.invariant.0, c.loop-i.invariant.1)
+pub returns-in_err-v : goal.returns-in_err-v
+returns-in_err-v c =
+    let l = lined_more c.args.tokens.now c.loop-c.v c.loop-c.c-index c.loop-c-test.true in
+    c.from_residual.ensures ∙ sym (rw (← c.in_err-v.ensures) at l) ∙ c.loop-c.invariant.1
 
-pub returns-in_default : goal.returns-in_default
-returns-in_default c =
-    sym (lined_broken _ _ (omega (arith, c.requires)) _ _ _ c.loop-i-test.true c.next_in_line-o.ensures c.in_default.is) ∙ c.loop-i.invariant.2
-
-pub loop-i-preserved : goal.loop-i-preserved
-loop-i-preserved c =
-    let t = c.loop-i-test.true in (
-      omega (arith, t),
-      omega (arith, step_most _ _ _ (sym c.next_in_line-o.ensures ∙ c.in-Count.is), c.loop-i.invariant.1),
-      sym (lined_more _ _ (omega (arith, c.requires)) _ _ _ _ t c.next_in_line-o.ensures c.in-Count.is) ∙ c.loop-i.invariant.2,
-    )
+pub loop-c-preserved : goal.loop-c-preserved
+loop-c-preserved c =
+    let l = lined_more c.args.tokens.now c.loop-c.v c.loop-c.c-index c.loop-c-test.true in
+    let most = step_most _ _ _ c.in_ok-v.ensures in
+    (omega arith, sym (rw (← c.in_ok-v.ensures) at l) ∙ c.loop-c.invariant.1)
 
 pub returns : goal.returns
-returns c =
-    sym (lined_end _ _ (omega (arith, c.requires)) _ _ c.loop-i-test.false) ∙ c.loop-i.invariant.2
+returns c = sym (lined_all _ _ _ c.loop-c-test.false) ∙ c.loop-c.invariant.1

@@ -1,56 +1,42 @@
 -- An automaton's lines, one after another.
-use Rattle.blocks.specs.Packed.{table_of, no_table}
-use Rattle.blocks.specs.Draft.{from_trans, from_final, automaton}
-use Rattle.blocks.proofs.Chain.{number_refused, number_read, number_range, number_placed, list_refused, list_read, list_whole, handed_next, handed_first}
-use native.Mathlib.Omega.{arith}
+use Rattle.blocks.specs.Draft.{automaton}
+use Rattle.blocks.proofs.Chain.{answer_stopped, answer_read, exits, first_stopped, next_stopped, next_went}
+use Rattle.blocks.proofs.Blocks.{times_length, table_went}
 use Rattle.blocks.proofs.automata.read_table.Goals as goal
 
-pub number_line-f-requires : goal.number_line-f-requires
-number_line-f-requires c = let p = c.requires in record { kind_bound = omega (arith, p.0.kinds); placed = p.2 }
-
-pub returns-in_default : goal.returns-in_default
+pub returns-in_err-states : goal.returns-in_err-states
 unfolding automaton
-returns-in_default c =
-    handed_first _ table_of no_table _ (from_final _ _ _ _) _ _ _ _ _ _ c.no_table.ensures.0 c.no_table.ensures.1
-    (number_refused _ _ _ _ c.number_line-f.ensures _ _ c.in_default.is c.field_refusal.ensures)
+returns-in_err-states c = exits _ _ _ c.from_residual.ensures.1 (first_stopped _ _ (answer_stopped c.in_err-states.ensures))
 
-pub final_line-it-requires : goal.final_line-it-requires
-final_line-it-requires c =
-    let l = c.number_line-f.ensures in
-    let e = c.in-Read.is in
-    let p = c.requires.0 in
-    let r = number_range _ _ _ _ l _ _ e in
-    record {
-      kind_bound = (omega (arith, p.kinds), p.final);
-      le_states = (omega (arith, r.0, p.states_bound.0), omega (arith, r.1, p.states_bound.1));
-      placed = number_placed _ _ _ _ l _ _ e;
-    }
+pub returns-in_err-finals : goal.returns-in_err-finals
+unfolding automaton
+returns-in_err-finals c =
+    exits _ _ _ c.from_residual-in_err-finals.ensures.1 (
+    next_stopped _ _ (answer_read c.in_ok-states.ensures) (
+    first_stopped _ _ (answer_stopped c.in_err-finals.ensures)))
 
-pub returns-in_default-answer : goal.returns-in_default-answer
-unfolding automaton from_final
-returns-in_default-answer c =
-    handed_next _ table_of no_table _ (from_final _ _ _ _) _ _ _ _ _ _ _ (number_read _ _ _ _ c.number_line-f.ensures _ _ c.in-Read.is)
-    (handed_first _ table_of no_table _ (from_trans _ _ _ _) _ _ _ _ _ _ c.no_table-in_default-answer.ensures.0 c.no_table-in_default-answer.ensures.1
-    (list_refused _ _ _ _ _ c.final_line-it.ensures _ _ c.in_default-answer.is c.list_refusal.ensures))
+pub returns-in_err-n : goal.returns-in_err-n
+unfolding automaton
+returns-in_err-n c =
+    exits _ _ _ c.from_residual-in_err-n.ensures.1 (
+    next_stopped _ _ (answer_read c.in_ok-states.ensures) (
+    next_stopped _ _ (answer_read c.in_ok-finals.ensures) (
+    first_stopped _ _ (answer_stopped c.in_err-n.ensures))))
 
-pub mask_of-finals-requires : goal.mask_of-finals-requires
-mask_of-finals-requires c =
-    let w = list_whole _ _ _ _ _ c.final_line-it.ensures _ _ _ c.in-Got.is in
-    record { n_bound = w.few; by_index = λ k. omega (arith, w.low k) }
-
-pub from_trans-requires : goal.from_trans-requires
-from_trans-requires c =
-    let p = c.requires in
-    let r = number_range _ _ _ _ c.number_line-f.ensures _ _ c.in-Read.is in
-    let w = list_whole _ _ _ _ _ c.final_line-it.ensures _ _ _ c.in-Got.is in
-    record {
-      table_kinds = (p.0, p.1, w.placed);
-      le_states = (omega (arith, r.0, p.0.states_bound.0), omega (arith, r.1, p.0.states_bound.1));
-    }
+pub returns-in_err-rows : goal.returns-in_err-rows
+unfolding automaton
+returns-in_err-rows c =
+    exits _ _ _ c.from_residual-in_err-rows.ensures.1 (
+    next_stopped _ _ (answer_read c.in_ok-states.ensures) (
+    next_stopped _ _ (answer_read c.in_ok-finals.ensures) (
+    next_stopped _ _ (answer_read c.in_ok-n.ensures) (
+    first_stopped _ _ c.in_err-rows.ensures))))
 
 pub returns : goal.returns
-unfolding automaton from_final
+unfolding automaton
 returns c =
-    handed_next _ table_of no_table _ (from_final _ _ _ _) _ _ _ _ _ _ _ (number_read _ _ _ _ c.number_line-f.ensures _ _ c.in-Read.is)
-    (handed_next _ table_of no_table _ (from_trans _ _ _ _) _ _ _ _ _ _ _ (list_read _ _ _ _ _ c.final_line-it.ensures _ _ _ c.in-Got.is)
-    (c.from_trans.ensures _ c.mask_of-finals.ensures))
+    next_went _ _ (answer_read c.in_ok-states.ensures) (
+    next_went _ _ (answer_read c.in_ok-finals.ensures) (
+    next_went _ _ (answer_read c.in_ok-n.ensures) (
+    next_went _ _ c.in_ok-rows.ensures.is (
+    table_went _ _ _ _ c.mask_of.ensures c.in_ok-rows.ensures (times_length _ _ _ _ c.in_ok-rows.ensures.is)))))

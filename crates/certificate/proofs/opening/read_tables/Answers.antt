@@ -1,40 +1,64 @@
--- The tables from a place on: the budget's line, the line of arities, and what follows.
-use Rattle.blocks.specs.Packed.{tables_of, no_tables}
-use Rattle.blocks.specs.Draft.{from_initial, from_arities, draft}
-use Rattle.blocks.proofs.Chain.{number_refused, number_read, number_placed, list_refused, list_read, list_whole, handed_next, handed_first}
-use Rattle.certificate.proofs.TableLaws.{listed_symbols}
-use native.Mathlib.Omega.{arith}
+-- All lines before `merge`, one part after another, and the tables that they fill.
+use Rattle.blocks.specs.Draft.{draft}
+use Rattle.blocks.proofs.Chain.{answer_stopped, answer_read, answer_whole, exits, first_stopped, next_stopped, next_went}
+use Rattle.certificate.proofs.TableLaws.{tables_went}
 use Rattle.certificate.proofs.opening.read_tables.Goals as goal
 
-pub number_line-f-requires : goal.number_line-f-requires
-number_line-f-requires c = record { kind_bound = omega arith; placed = c.requires }
-
-pub returns-in_default : goal.returns-in_default
+pub returns-in_err-budget : goal.returns-in_err-budget
 unfolding draft
-returns-in_default c =
-    handed_first _ tables_of no_tables _ from_arities _ _ _ _ _ _ c.no_tables.ensures.0 c.no_tables.ensures.1
-    (number_refused _ _ _ _ c.number_line-f.ensures _ _ c.in_default.is c.field_refusal.ensures)
+returns-in_err-budget c = exits _ _ _ c.from_residual.ensures.1 (first_stopped _ _ (answer_stopped c.in_err-budget.ensures))
 
-pub arities_line-it-requires : goal.arities_line-it-requires
-arities_line-it-requires c = number_placed _ _ _ _ c.number_line-f.ensures _ _ c.in-Read.is
+pub returns-in_err-listed : goal.returns-in_err-listed
+unfolding draft
+returns-in_err-listed c =
+    exits _ _ _ c.from_residual-in_err-listed.ensures.1 (
+    next_stopped _ _ (answer_read c.in_ok-budget.ensures) (
+    first_stopped _ _ (answer_stopped c.in_err-listed.ensures)))
 
-pub returns-in_default-answer : goal.returns-in_default-answer
-unfolding draft from_arities
-returns-in_default-answer c =
-    handed_next _ tables_of no_tables _ from_arities _ _ _ _ _ _ _ (number_read _ _ _ _ c.number_line-f.ensures _ _ c.in-Read.is)
-    (handed_first _ tables_of no_tables _ (from_initial _) _ _ _ _ _ _ c.no_tables-in_default-answer.ensures.0 c.no_tables-in_default-answer.ensures.1
-    (list_refused _ _ _ _ _ c.arities_line-it.ensures _ _ c.in_default-answer.is c.list_refusal.ensures))
+pub returns-in_err-initial : goal.returns-in_err-initial
+unfolding draft
+returns-in_err-initial c =
+    exits _ _ _ c.from_residual-in_err-initial.ensures.1 (
+    next_stopped _ _ (answer_read c.in_ok-budget.ensures) (
+    next_stopped _ _ (answer_read c.in_ok-listed.ensures) (
+    first_stopped _ _ c.in_err-initial.ensures)))
 
-pub from_initial-requires : goal.from_initial-requires
-from_initial-requires c =
-    let w = list_whole _ _ _ _ _ c.arities_line-it.ensures _ _ _ c.in-Got.is in
-    record {
-      signature = (listed_symbols _ _ _ _ _ _ _ w (list_read _ _ _ _ _ c.arities_line-it.ensures _ _ _ c.in-Got.is), w.behind);
-      placed = w.placed;
-    }
+pub returns-in_err-bad : goal.returns-in_err-bad
+unfolding draft
+returns-in_err-bad c =
+    exits _ _ _ c.from_residual-in_err-bad.ensures.1 (
+    next_stopped _ _ (answer_read c.in_ok-budget.ensures) (
+    next_stopped _ _ (answer_read c.in_ok-listed.ensures) (
+    next_stopped _ _ c.in_ok-initial.ensures.is (
+    first_stopped _ _ c.in_err-bad.ensures))))
+
+pub returns-in_err-n : goal.returns-in_err-n
+unfolding draft
+returns-in_err-n c =
+    exits _ _ _ c.from_residual-in_err-n.ensures.1 (
+    next_stopped _ _ (answer_read c.in_ok-budget.ensures) (
+    next_stopped _ _ (answer_read c.in_ok-listed.ensures) (
+    next_stopped _ _ c.in_ok-initial.ensures.is (
+    next_stopped _ _ c.in_ok-bad.ensures.is (
+    first_stopped _ _ (answer_stopped c.in_err-n.ensures))))))
+
+pub returns-in_err-rules : goal.returns-in_err-rules
+unfolding draft
+returns-in_err-rules c =
+    exits _ _ _ c.from_residual-in_err-rules.ensures.1 (
+    next_stopped _ _ (answer_read c.in_ok-budget.ensures) (
+    next_stopped _ _ (answer_read c.in_ok-listed.ensures) (
+    next_stopped _ _ c.in_ok-initial.ensures.is (
+    next_stopped _ _ c.in_ok-bad.ensures.is (
+    next_stopped _ _ (answer_read c.in_ok-n.ensures) (
+    first_stopped _ _ c.in_err-rules.ensures))))))
 
 pub returns : goal.returns
-unfolding draft from_arities
+unfolding draft
 returns c =
-    handed_next _ tables_of no_tables _ from_arities _ _ _ _ _ _ _ (number_read _ _ _ _ c.number_line-f.ensures _ _ c.in-Read.is)
-    (handed_next _ tables_of no_tables _ (from_initial _) _ _ _ _ _ _ _ (list_read _ _ _ _ _ c.arities_line-it.ensures _ _ _ c.in-Got.is) c.from_initial.ensures)
+    next_went _ _ (answer_read c.in_ok-budget.ensures) (
+    next_went _ _ (answer_read c.in_ok-listed.ensures) (
+    next_went _ _ c.in_ok-initial.ensures.is (
+    next_went _ _ c.in_ok-bad.ensures.is (
+    next_went _ _ (answer_read c.in_ok-n.ensures) (
+    tables_went _ _ _ _ _ (answer_whole c.in_ok-listed.ensures) c.in_ok-initial.ensures.packs c.in_ok-bad.ensures.packs c.in_ok-rules.ensures)))))

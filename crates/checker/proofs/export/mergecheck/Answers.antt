@@ -12,4 +12,4 @@ overflow_add-result c =
 
 pub returns : goal.returns
 unfolding packed
-returns c = (ap packed c.check-a.ensures, ap (λ (x : Returned). x.buffer) c.check-a.ensures)
+returns c = rw c.number.ensures (ap packed c.check-a.ensures, ap (λ (x : Returned). x.buffer) c.check-a.ensures)

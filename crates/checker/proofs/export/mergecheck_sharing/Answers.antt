@@ -6,5 +6,6 @@ use Rattle.checker.proofs.export.mergecheck_sharing.Goals as goal
 pub returns : goal.returns
 returns c =
     let said = c.sharing.ensures in
-    let (kind, words) = c.sharing_numbers-n.ensures in
-    (kind ∙ ap sharing_kind said, words ∙ ap sharing_numbers said)
+    let (kind, words) = c.sharing_numbers.ensures in
+    let (gave, filled) = c.fill.ensures in
+    (gave ∙ kind ∙ ap sharing_kind said, filled ∙ words ∙ ap sharing_numbers said)

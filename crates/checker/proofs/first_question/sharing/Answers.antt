@@ -1,21 +1,23 @@
 -- `checker::first_question::sharing` meets its contract: the file's refusal, or the answer on the tables that it holds.
-use mathlib.Core.Path.{◌∙◌}
-use Rattle.paper.specs.Computed.{sharing_in, sharing_of}
+use mathlib.Core.Path.{ap, ◌∙◌}
+use Rattle.std.proofs.lemmas.Result.{err_from_is_err_and}
 use Rattle.certificate.proofs.Sound.{read_sound}
-use Rattle.verdicts.specs.Said.{said_sharing}
+use Rattle.paper.specs.Meaning.{Asked}
+use Rattle.paper.specs.Computed.{sharing_in, sharing_of}
+use Rattle.verdicts.specs.Refused.{asked}
 use Rattle.checker.proofs.FromReading.{asked_refused, asked_read}
 use Rattle.checker.proofs.first_question.sharing.Goals as goal
 
-pub returns-then-read-ne0 : goal.returns-then-read-ne0
-unfolding said_sharing sharing_of
-returns-then-read-ne0 c = asked_refused c.args.file.now _ c.read-read.ensures sharing_in c.if-read-ne0.true
+pub returns-in_err-read : goal.returns-in_err-read
+unfolding asked sharing_of
+returns-in_err-read c =
+    let p = err_from_is_err_and c.from_residual.result c.from_residual.ensures.1 in
+    rw (p.1, p.2) (asked_refused c.args.file.now c.read.result c.read.ensures c.in_err-read.field-0.0 c.in_err-read.was sharing_in)
 
 pub sharing-requires : goal.sharing-requires
-sharing-requires c =
-    read_sound c.args.file.now _ c.read-read.ensures c.if-read-ne0.false
+sharing-requires c = read_sound c.args.file.now c.read.result c.in_ok-read.read c.read.ensures c.in_ok-read.was
 
 pub returns : goal.returns
-unfolding sharing_of
+unfolding asked sharing_of
 returns c =
-    let read = asked_read c.args.file.now _ c.read-read.ensures sharing_in c.if-read-ne0.false in
-    c.sharing.ensures ∙ read
+    ap Asked.answered c.sharing.ensures ∙ asked_read c.args.file.now c.read.result c.read.ensures c.in_ok-read.read c.in_ok-read.was sharing_in

@@ -1,22 +1,25 @@
 -- `checker::second_question::closure` meets its contract: the file's refusal, or the answer on the tables that it holds.
-use mathlib.Core.Path.{◌∙◌}
-use Rattle.paper.specs.Computed.{closure_in, closure_of}
+use mathlib.Core.Path.{sym, ap, ◌∙◌}
+use Rattle.std.proofs.lemmas.Result.{err_from_is_err_and}
 use Rattle.certificate.proofs.Sound.{read_sound}
-use Rattle.verdicts.specs.Said.{said_closure, EndedIn}
+use Rattle.paper.specs.Meaning.{Asked}
+use Rattle.paper.specs.Computed.{closure_in, closure_of}
+use Rattle.verdicts.specs.Said.{TellsOfFile}
 use Rattle.checker.proofs.FromReading.{asked_refused, asked_read}
 use Rattle.checker.proofs.second_question.closure.Goals as goal
 
-pub returns-then-read-ne0 : goal.returns-then-read-ne0
-unfolding said_closure EndedIn closure_of
-returns-then-read-ne0 c = record { says = asked_refused c.args.file.now _ c.read-read.ensures closure_in c.if-read-ne0.true; ended = tt }
+pub returns-in_err-read : goal.returns-in_err-read
+unfolding TellsOfFile closure_of
+returns-in_err-read c =
+    let p = err_from_is_err_and c.from_residual.result c.from_residual.ensures.1 in
+    rw (p.1, p.2) (sym (asked_refused c.args.file.now c.read.result c.read.ensures c.in_err-read.field-0.0 c.in_err-read.was closure_in))
 
 pub closure-requires : goal.closure-requires
-closure-requires c =
-    read_sound c.args.file.now _ c.read-read.ensures c.if-read-ne0.false
+closure-requires c = read_sound c.args.file.now c.read.result c.in_ok-read.read c.read.ensures c.in_ok-read.was
 
 pub returns : goal.returns
-unfolding closure_of
+unfolding TellsOfFile closure_of
 returns c =
-    let read = asked_read c.args.file.now _ c.read-read.ensures closure_in c.if-read-ne0.false in
+    let read = asked_read c.args.file.now c.read.result c.read.ensures c.in_ok-read.read c.in_ok-read.was closure_in in
     let found = c.closure.ensures in
-    record { says = found.says ∙ read; ended = found.ended }
+    (sym read ∙ ap Asked.answered (sym found.says), found.ended)

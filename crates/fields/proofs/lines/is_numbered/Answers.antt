@@ -1,26 +1,23 @@
--- `is_numbered`: the first i numbers are passed, with k classes among them.
-use Rattle.fields.proofs.MergeLaws.{pass_end, pass_bad, pass_more, bump_most}
-use lib.ListN.{get_or}
-use mathlib.Core.Path.{sym, ◌∙◌}
-use native.Mathlib.Omega.{arith}
+-- `is_numbered`: each number is passed or ends the loop, and none is left at the end.
+use Rattle.std.proofs.Common.{sym, ◌∙◌, arith}
+use Rattle.fields.proofs.MergeLaws.{class_above, class_new, class_seen, class_none}
 use Rattle.fields.proofs.lines.is_numbered.Goals as goal
+use Rattle.fields.proofs.lines.is_numbered.Goals.{then-c-classes, else-c-classes}
 
-pub returns-then-k-v : goal.returns-then-k-v
-returns-then-k-v c =
-    sym (pass_bad _ _ _ _ (omega (arith, c.requires)) c.loop-i-test.true c.if-k-v.true) ∙ c.loop-i.invariant.2
+pub returns-then-classes-c : goal.returns-then-classes-c
+returns-then-classes-c c = sym (class_above _ _ _ c.loop-c-test.true c.if-classes-c.true) ∙ c.loop-c.invariant.left
 
-pub bump_class-k-requires : goal.bump_class-k-requires
-bump_class-k-requires c =
-    omega (arith, c.requires, c.loop-i.invariant.0, c.loop-i.invariant.1)
-
-pub loop-i-preserved : goal.loop-i-preserved
-loop-i-preserved c = (
-  omega (arith, bump_most c.loop-i.k (get_or c.args.items c.loop-i.i 0), c.bump_class-k.ensures),
-  omega arith,
-  rw c.bump_class-k.ensures
-      (sym (pass_more _ _ _ _ (omega (arith, c.requires)) c.loop-i-test.true c.if-k-v.false) ∙ c.loop-i.invariant.2),
-)
+pub loop-c-preserved : goal.loop-c-preserved
+loop-c-preserved c = elim c.if-c-classes.branch [
+  | then-c-classes w ↦ record {
+    few = omega arith;
+    left = rw w.classes-is (sym (class_new _ _ _ c.loop-c-test.true w.if-c-classes.true) ∙ c.loop-c.invariant.left);
+  }
+  | else-c-classes w ↦ record {
+    few = omega arith;
+    left = rw w.classes-is (sym (class_seen _ _ _ c.loop-c-test.true c.if-classes-c.false w.if-c-classes.false) ∙ c.loop-c.invariant.left);
+  }
+]
 
 pub returns : goal.returns
-returns c =
-    sym (pass_end _ _ _ _ (omega (arith, c.requires)) c.loop-i-test.false) ∙ c.loop-i.invariant.2
+returns c = sym (class_none _ _ _ c.loop-c-test.false) ∙ c.loop-c.invariant.left

@@ -1,14 +1,7 @@
--- `is_numbered`: the first i numbers are passed, with k classes among them.
+-- `is_numbered`: what is left is numbered after the classes so far, as all is after none.
+use Rattle.std.proofs.Common.{◌≡◌, ◌≤◌, drop}
 use Rattle.fields.specs.Merge.{numbered}
-use lib.ListN.{drop, take}
-use mathlib.Core.Path.{◌≡◌}
-use Prim.Native.Nat.{◌≤◌, ◌-◌}
 use Rattle.fields.proofs.lines.is_numbered.Given as goal
 
-abbrev pub invariant-loop-i : goal.invariant-loop-i
-invariant-loop-i l =
-    (l.k ≤ l.i) × (l.i ≤ l.n) × (numbered l.k (drop l.i (take l.n l.items)) ≡ numbered 0 (take l.n l.items))
-
-abbrev pub decreases-loop-i : goal.decreases-loop-i
-decreases-loop-i l =
-    l.n - l.i
+abbrev pub invariant-loop-c : goal.invariant-loop-c
+invariant-loop-c l = record { few : l.classes ≤ l.c-index; left : numbered l.classes (drop l.c-index l.items) ≡ numbered 0 l.items }

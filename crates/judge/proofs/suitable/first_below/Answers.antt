@@ -1,25 +1,15 @@
--- `judge::suitable::first_below` meets its contract. The invariant: what is left gives what all of it gives.
-use native.Mathlib.Omega.{arith}
-use mathlib.Core.Path.{sym, ap, ◌∙◌}
+-- `judge::suitable::first_below` meets its contract: the first number that is found is the smallest member.
+use mathlib.Core.Path.{◌≡◌}
+use mathlib.Core.Bool.{true, false}
+use borrow.Author.Rules.{rules}
+use borrow.Author.Tests.{tests}
+use Rattle.std.proofs.lemmas.Iterator.{first_from_Range}
 use Rattle.sets.specs.Sets.{mem}
-use Rattle.paper.specs.Computed.{smallest}
-use Rattle.judge.specs.Pairs.{said_first}
-use Rattle.judge.proofs.Seek.{smallest_here, smallest_on, smallest_end}
+use Rattle.judge.proofs.Seek.{first_smallest}
 use Rattle.judge.proofs.suitable.first_below.Goals as goal
 
-pub loop-p-init : goal.loop-p-init
-loop-p-init c = (omega arith, ap (smallest (mem c.args.set) 0) (omega arith))
-
-pub has-requires : goal.has-requires
-has-requires c = omega (arith, c.requires)
-
-pub returns-then-has : goal.returns-then-has
-unfolding said_first
-returns-then-has c = sym (smallest_here _ _ _ (omega arith) (sym c.has.ensures ∙ c.if-has.true)) ∙ c.loop-p.invariant.1
-
-pub loop-p-preserved : goal.loop-p-preserved
-loop-p-preserved c = (omega arith, sym (smallest_on _ _ _ (omega arith) (sym c.has.ensures ∙ c.if-has.false)) ∙ c.loop-p.invariant.1)
-
 pub returns : goal.returns
-unfolding said_first
-returns c = sym (smallest_end _ _ _ c.loop-p-test.false) ∙ c.loop-p.invariant.1
+returns c =
+    let set = mem c.args.set in
+    first_smallest set _ _
+    (first_from_Range _ _ _ c.find.result (λ p. set p ≡ true) (λ p. set p ≡ false) c.find.ensures.ran (λ x q k. search (rules, tests)) (λ x q k. search (rules, tests)))

@@ -13,7 +13,7 @@ value-requires c =
     valuable j (search rules)
     (c.free_from.ensures.1.long ∙ c.pair_up.ensures.both_touched.long
     ∙ c.fix_all.ensures.1.long)
-    (none_kept a.arities.now a.words.now a.heads.now a.tokens.now a.k _ _)
+    (none_kept a.delta.arities.now a.delta.words.now a.delta.heads.now a.tokens.now a.delta.states _ _)
 
 pub returns : goal.returns
 returns c =
@@ -23,7 +23,8 @@ returns c =
     let both = c.pair_up.ensures in
     let later = c.free_from.ensures in
     let valued = c.value.ensures.valued in (
-      some_alive a.k _ a.xs.now j.ready.some j.ready.most (freed a.k _ _ _ a.xs.now c.requires.1.few j.ready.some prefix.0 both.paired both.both_touched later.0 later.1)
-          a.arities.now a.words.now a.heads.now a.tokens.now j.symbol _ _ c.left_lanes.result valued c.left_lanes.ensures,
+      some_alive a.delta.states _ a.xs.now c.args.delta.ready.some c.args.delta.ready.most (freed a.delta.states _ _ _ a.xs.now c.requires.1.few c.args.delta.ready.some prefix.0
+          both.paired both.both_touched later.0 later.1)
+          a.delta.arities.now a.delta.words.now a.delta.heads.now a.tokens.now j.symbol _ _ c.left_lanes.result valued c.left_lanes.ensures,
       valued.long ∙ later.1.long ∙ both.both_touched.long ∙ prefix.1.long,
     )

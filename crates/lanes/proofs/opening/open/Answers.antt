@@ -1,7 +1,6 @@
 -- `lanes::opening::open` meets its contract, by how many variables come after the prefix.
 use mathlib.Core.Path.{refl, ◌∙◌}
 use Rattle.lanes.specs.Automaton.{woven_automaton}
-use Rattle.lanes.proofs.Stays.{judgeable_stays}
 use Rattle.lanes.proofs.Calm.{each_below}
 use Rattle.lanes.proofs.Opened.{open_all, open_none, open_live, open_swept}
 use native.Mathlib.Omega.{arith}
@@ -11,7 +10,7 @@ pub returns-then-v-own : goal.returns-then-v-own
 unfolding woven_automaton
 returns-then-v-own c =
     let a = c.args in (
-      (λ rule s left right. open_all (woven_automaton a.arities.now a.words.now a.heads.now a.k) rule a.v a.xs.now a.needed c.requires.0.ready.most),
+      (λ rule s left right. open_all (woven_automaton a.delta.arities.now a.delta.words.now a.delta.heads.now a.delta.states) rule a.v a.xs.now a.needed c.args.delta.ready.most),
       refl,
     )
 
@@ -19,7 +18,7 @@ pub returns-then-pairs : goal.returns-then-pairs
 unfolding woven_automaton
 returns-then-pairs c =
     let a = c.args in (
-      (λ rule s left right. open_all (woven_automaton a.arities.now a.words.now a.heads.now a.k) rule a.v a.xs.now a.needed c.requires.0.ready.most),
+      (λ rule s left right. open_all (woven_automaton a.delta.arities.now a.delta.words.now a.delta.heads.now a.delta.states) rule a.v a.xs.now a.needed c.args.delta.ready.most),
       c.pairs.ensures.1,
     )
 
@@ -28,17 +27,11 @@ unfolding woven_automaton
 returns-then-v-own-2 c =
     let a = c.args in (
       (λ rule s left right.
-          open_none (woven_automaton a.arities.now a.words.now a.heads.now a.k) rule a.v a.xs.now a.needed c.if-v-own-2.true
+          open_none (woven_automaton a.delta.arities.now a.delta.words.now a.delta.heads.now a.delta.states) rule a.v a.xs.now a.needed c.if-v-own-2.true
           (c.pairs.ensures.0 rule s (each_below c.if-v-own-2.true left)
           (each_below c.if-v-own-2.true right) c.if-pairs.false)),
       c.pairs.ensures.1,
     )
-
-pub sweep-requires : goal.sweep-requires
-sweep-requires c = (
-  judgeable_stays c.args.k c.args.m.now _ c.alive.ensures.1 c.requires.0,
-  record { few = omega (arith, c.if-v-own-3.true, c.requires.1); low = c.requires.2.low },
-)
 
 pub returns-then-v-own-3 : goal.returns-then-v-own-3
 unfolding woven_automaton
@@ -47,7 +40,7 @@ returns-then-v-own-3 c =
     let alive = c.alive in
     let third = c.if-v-own-3.true in (
       (λ rule s left right.
-          open_swept (woven_automaton a.arities.now a.words.now a.heads.now a.k) rule a.v a.xs.now a.needed c.requires.1
+          open_swept (woven_automaton a.delta.arities.now a.delta.words.now a.delta.heads.now a.delta.states) rule a.v a.xs.now a.needed c.requires.1
           alive.result (alive.ensures.0 rule s) c.sweep.result third
           (c.sweep.ensures.0 rule s (each_below third left) (each_below third right))),
       c.sweep.ensures.1 ∙ alive.ensures.1,
@@ -59,7 +52,7 @@ returns c =
     let a = c.args in
     let alive = c.alive in (
       (λ rule s left right.
-          open_live (woven_automaton a.arities.now a.words.now a.heads.now a.k) rule a.v a.xs.now a.needed c.requires.1
+          open_live (woven_automaton a.delta.arities.now a.delta.words.now a.delta.heads.now a.delta.states) rule a.v a.xs.now a.needed c.requires.1
           alive.result (alive.ensures.0 rule s) (omega (arith, c.if-v-own-2.false, c.if-v-own.false))),
       alive.ensures.1,
     )

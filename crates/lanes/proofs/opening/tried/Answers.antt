@@ -1,29 +1,19 @@
 -- `lanes::opening::tried` meets its contract: of the classes below x, those in `live` that are not found have no lane with a critical pair.
-use mathlib.Core.Path.{sym, ◌∙◌}
+use mathlib.Core.Path.{refl, sym, ◌∙◌}
 use Rattle.theory.proofs.Bools.{not_both}
-use Rattle.lanes.proofs.Stays.{judgeable_stays}
 use Rattle.lanes.proofs.Judging.{none_kept}
 use Rattle.lanes.proofs.Trying.{trying_none, trying_same, trying_skip, fresh_kept, trying_clear, trying_found}
-use borrow.Author.Rules.{rules}
-use native.Mathlib.Omega.{arith}
 use Rattle.lanes.proofs.opening.tried.Goals as goal
-use Rattle.lanes.proofs.opening.tried.Goals.{then-has+then-not-has+then-compare, then-has+then-not-has+else-compare, then-has+else-not-has, else-has}
+use Rattle.lanes.proofs.opening.tried.Goals.{then-has+then-not-has+then-compare, then-has+then-not-has+else-compare, else-has, else-has-via-then-has+else-not-has, else-has-via-else-has}
 
 pub loop-x-init : goal.loop-x-init
 loop-x-init c =
     let a = c.args in
-    trying_none _ a.arities.now a.tokens.now a.k a.own a.live a.found a.m.now _ _ (search rules)
-    (none_kept a.arities.now a.words.now a.heads.now a.tokens.now a.k _ _)
+    trying_none _ a.delta.arities.now a.tokens.now a.delta.states a.own a.live a.found a.m.now _ _ refl
+    (none_kept a.delta.arities.now a.delta.words.now a.delta.heads.now a.tokens.now a.delta.states _ _)
 
-pub compare-requires : goal.compare-requires
-compare-requires c =
-    let a = c.args in
-    let fixed = c.fix.ensures.1 in
-    let inv = c.loop-x.invariant in
-    record {
-      judgeable = judgeable_stays a.k a.m.now _ (fixed.long ∙ inv.others.long) c.requires.0;
-      kept = fresh_kept c.loop-x-test.true inv _ c.requires.1 fixed;
-    }
+pub compare-requires-clause-kept : goal.compare-requires-clause-kept
+compare-requires-clause-kept c = fresh_kept c.loop-x-test.true c.loop-x.invariant _ c.requires.1 c.fix.ensures.1
 
 pub loop-x-preserved : goal.loop-x-preserved
 loop-x-preserved c =
@@ -39,16 +29,8 @@ loop-x-preserved c =
           let v = w.compare.ensures in
           trying_same w.m-is w.ends-is w.mask-is
           (trying_clear going inv _ low w.fix.ensures.1 w.fix.ensures.0 _ v.kept_2.1 _ v.kept_2.0 (λ rule s. (v.compared rule s).clear w.if-compare.false))
-      | then-has+else-not-has w ↦
-          trying_same w.m-is w.ends-is w.mask-is
-          (trying_skip going inv (λ on out. not_both _ (sym w.has-then-has.ensures ∙ w.if-not-has.false) out))
-      | else-has w ↦ trying_same w.m-is w.ends-is w.mask-is (trying_skip going inv (λ on out. not_both _ on (sym c.has.ensures ∙ w.if-has.false)))
+      | else-has w ↦ trying_same w.m-is w.ends-is w.mask-is (trying_skip going inv (elim w.else-has.branch [
+        | else-has-via-then-has+else-not-has v ↦ λ on out. not_both _ (sym v.has-then-has.ensures ∙ v.if-not-has.false) out
+        | else-has-via-else-has v ↦ λ on out. not_both _ on (sym c.has.ensures ∙ v.if-has.false)
+      ]))
     ]
-
-pub shape_of-m : goal.shape_of-m
-shape_of-m c = c.loop-x.invariant.others.long
-
-pub returns : goal.returns
-returns c =
-    let inv = c.loop-x.invariant in
-    ((λ rule s. record { more = inv.more; clear = λ y hy. inv.clear rule s y (omega (arith, c.loop-x-test.false)) }), inv.others)

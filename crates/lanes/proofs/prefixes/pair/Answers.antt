@@ -1,37 +1,22 @@
 -- `lanes::prefixes::pair` meets its contract, by the number of variables.
-use mathlib.Core.Path.{◌≡◌, sym, ap}
-use Prim.Native.Nat.{ℕ}
-use Rattle.lanes.specs.Prefixes.{chosen, pair_of}
+use mathlib.Core.Path.{◌≡◌, refl}
+use Prim.Native.Nat.{ℕ, zero, suc, ◌≤◌}
 use native.Mathlib.Omega.{arith}
+use Rattle.verdicts.specs.declared.CriticalPair.{CriticalPair}
+use Rattle.lanes.specs.Prefixes.{chosen, shown, pair_of}
 use Rattle.lanes.proofs.prefixes.pair.Goals as goal
 
-pub returns-then-v-eq0 : goal.returns-then-v-eq0
+same : (rule v x0 x1 x2 j q : ℕ) → v ≤ 4
+    → ◌≡◌ {A = CriticalPair} (record { rule = rule; x0 = shown v 0 x0 j; x1 = shown v 1 x1 j; x2 = shown v 2 x2 j; x3 = shown v 3 j j; class = q }) (pair_of rule v x0 x1 x2 j q)
 unfolding chosen pair_of
-returns-then-v-eq0 c =
-    let a = c.args in
-    sym (ap (λ (n : ℕ). pair_of a.rule n a.x0 a.x1 a.x2 a.j a.q) c.if-v-eq0.true)
-
-pub returns-then-v-eq1 : goal.returns-then-v-eq1
-unfolding chosen pair_of
-returns-then-v-eq1 c =
-    let a = c.args in
-    sym (ap (λ (n : ℕ). pair_of a.rule n a.x0 a.x1 a.x2 a.j a.q) c.if-v-eq1.true)
-
-pub returns-then-v-eq2 : goal.returns-then-v-eq2
-unfolding chosen pair_of
-returns-then-v-eq2 c =
-    let a = c.args in
-    sym (ap (λ (n : ℕ). pair_of a.rule n a.x0 a.x1 a.x2 a.j a.q) c.if-v-eq2.true)
-
-pub returns-then-v-eq3 : goal.returns-then-v-eq3
-unfolding chosen pair_of
-returns-then-v-eq3 c =
-    let a = c.args in
-    sym (ap (λ (n : ℕ). pair_of a.rule n a.x0 a.x1 a.x2 a.j a.q) c.if-v-eq3.true)
+same rule zero x0 x1 x2 j q few = refl
+same rule (suc zero) x0 x1 x2 j q few = refl
+same rule (suc (suc zero)) x0 x1 x2 j q few = refl
+same rule (suc (suc (suc zero))) x0 x1 x2 j q few = refl
+same rule (suc (suc (suc (suc zero)))) x0 x1 x2 j q few = refl
+same rule (suc (suc (suc (suc (suc v))))) x0 x1 x2 j q few = absurd (omega arith)
 
 pub returns : goal.returns
-unfolding chosen pair_of
 returns c =
     let a = c.args in
-    let four : a.v ≡ 4 = omega (arith, c.if-v-eq3.false, c.if-v-eq2.false, c.if-v-eq1.false, c.if-v-eq0.false, c.requires.few) in
-    sym (ap (λ (n : ℕ). pair_of a.rule n a.x0 a.x1 a.x2 a.j a.q) four)
+    rw (c.shown.ensures, c.shown-2.ensures, c.shown-3.ensures, c.shown-4.ensures) (same a.rule a.v a.x0 a.x1 a.x2 a.j a.q c.requires.few)

@@ -1,32 +1,22 @@
--- `lanes::variables::fill` meets its contract: the rows before q are filled, and only rows of the sheet are changed.
-use mathlib.Core.Path.{◌≡◌, refl, ◌∙◌}
-use mathlib.Core.List.{List, []}
-use Prim.Native.Nat.{ℕ, ◌+◌, ◌≤◌, ◌<◌}
+-- `lanes::variables::fill` meets its contract: the rows of the sheet are filled, and no others are changed.
+use mathlib.Core.Path.{◌≡◌}
+use mathlib.Core.Logic.{inl, inr}
+use mathlib.Core.List.{List}
+use Prim.Native.Nat.{ℕ, ◌+◌, ◌-◌, ◌≤◌}
 use native.Mathlib.Omega.{arith}
-use lib.ListN.{length, get_or, set, replicate}
-use lib.Seq.{get_or-set_same, get_or-set_other}
-use borrow.Author.Count.{below_more}
-use Rattle.values.proofs.Rows.{store_within}
-use Rattle.lanes.proofs.variables.fill.Invariants.{Filled}
+use lib.ListN.{length, replicate, length-take, length-drop}
+use borrow.Rule.Slice.PartMut.{put_mid}
 use borrow.Author.Rules.{rules}
+use Rattle.std.proofs.lemmas.List.{places}
+use Rattle.std.proofs.lemmas.List.Elements.{same_from_all_zip}
+use Rattle.values.specs.Rows.{Within}
+use Rattle.lanes.specs.Batches.{Full}
 use Rattle.lanes.proofs.variables.fill.Goals as goal
 
-one_more : (m₀ : List (List ℕ)) (k a w : ℕ) (m : List (List ℕ)) (q : ℕ) → a + k ≤ length m₀ → q < k → Filled m₀ k a w m q → Filled m₀ k a w (set m (a + q) (replicate 8 w)) (q + 1)
-one_more m₀ k a w m q room going old = record {
-  upto = omega arith;
-  full = below_more (λ p. get_or (set m (a + q) (replicate 8 w)) (a + p) [] ≡ replicate 8 w) q
-      (λ p h. get_or-set_other m (a + q) (a + p) (replicate 8 w) [] (λ e. omega arith) ∙ old.full p h) (get_or-set_same m (a + q) (replicate 8 w) [] (omega (arith, old.only.long)));
-  only = store_within k m₀ a q m (replicate 8 w) going old.only;
-}
-
-pub loop-q-init : goal.loop-q-init
-loop-q-init c = record { upto = search rules; full = λ p h. absurd (omega arith); only = record { long = refl; same = λ i out. refl } }
-
-pub loop-q-preserved : goal.loop-q-preserved
-loop-q-preserved c = one_more _ _ _ _ _ _ c.requires c.loop-q-test.true c.loop-q.invariant
-
-pub shape_of-m : goal.shape_of-m
-shape_of-m c = c.loop-q.invariant.only.long
+filled : (k a w n : ℕ) (m : List (List ℕ)) → a + k ≤ length m → n ≡ k → let now = put_mid a (a + k - a) m (replicate n (replicate 8 w)) in Full k now a w × Within k m a now
+filled k a w n m room is = (λ q h. search (rules, places), record { long = search (rules, places); same = λ i out. elim out [ inl h ↦ search (rules, places) | inr h ↦ search (rules, places) ] })
 
 pub returns : goal.returns
-returns c = let end = c.loop-q.invariant in ((λ q h. end.full q (omega arith)), end.only)
+returns c =
+    let rows = c.fill.ensures.after (λ y h. same_from_all_zip (λ x y. y ≡ x) _ _ h.whole (λ x y r. r)) in
+    rw rows (filled c.args.k c.args.a c.args.w _ c.args.m.now c.requires (omega (arith, length-take {A = List ℕ}, length-drop {A = List ℕ})))

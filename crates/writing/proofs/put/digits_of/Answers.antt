@@ -1,25 +1,20 @@
 -- `digits_of`: it stores the number's digits from the right.
-use Rattle.writing.proofs.Digits.{storing_none, storing_inside, storing_before, storing_more, storing_last}
+use mathlib.Core.Path.{◌≡◌}
 use native.Mathlib.Omega.{arith}
+use Rattle.writing.proofs.Digits.{storing_none, storing_more, storing_last}
 use Rattle.writing.proofs.put.digits_of.Goals as goal
 
-pub loop-rest-init : goal.loop-rest-init
-loop-rest-init c = storing_none c.args.n (omega (arith, c.ranges))
+pub loop-start-init : goal.loop-start-init
+loop-start-init c = storing_none c.args.n (omega (arith, c.ranges))
 
-pub bounds-bytes-start : goal.bounds-bytes-start
-bounds-bytes-start c = omega (arith, storing_inside c.loop-rest.invariant, c.loop-rest.invariant.ten)
+pub returns-then-rest-lt10 : goal.returns-then-rest-lt10
+returns-then-rest-lt10 c = rw c.digit.ensures (storing_last c.loop-start.invariant _ (omega arith) c.if-rest-lt10.true)
 
-pub overflow_sub-start : goal.overflow_sub-start
-overflow_sub-start c = storing_before c.loop-rest.invariant (omega arith)
-
-pub loop-rest-smaller : goal.loop-rest-smaller
-loop-rest-smaller c = omega (arith, storing_before c.loop-rest.invariant (omega arith))
-
-pub loop-rest-preserved : goal.loop-rest-preserved
-loop-rest-preserved c = rw c.digit.ensures (storing_more c.loop-rest.invariant (omega arith))
-
-pub bounds-bytes-start-2 : goal.bounds-bytes-start-2
-bounds-bytes-start-2 c = omega (arith, storing_inside c.loop-rest.invariant, c.loop-rest.invariant.ten)
+pub loop-start-preserved : goal.loop-start-preserved
+loop-start-preserved c = rw c.digit.ensures (storing_more c.loop-start.invariant _ (omega arith) c.if-rest-lt10.false (omega arith))
 
 pub returns : goal.returns
-returns c = rw c.digit-2.ensures (storing_last c.loop-rest.invariant (omega arith))
+returns c =
+    let s = c.loop-start.invariant in
+    let last : 1 ≡ c.loop-start.start = omega (arith, s.some) in
+    rw c.digit-2.ensures (storing_last s 0 last (omega (arith, rw (← last) at s.room)))
