@@ -23,7 +23,7 @@ struct Arguments {
     wanted: u64,
 }
 
-// The class in byte i of a word.
+// The class in byte i of a word, as the masks are asked for it, with its bound.
 fn class_at(w: u64, i: u64) -> u64
     requires { i < 5 }
     ensures { (result ≡ part w i) × (result < 64) }
@@ -89,7 +89,7 @@ fn narrow_place<'a>(delta: Automaton, f: u8, p: u64, wanted: u64, same: &mut [u6
     }
 }
 
-// The classes that are argument p of the words of the symbol f with a wanted target.
+// The classes that are argument p of the words of the symbol f with a wanted target: gathered, where `narrow_place` narrows masks.
 fn called<'a>(delta: Automaton, f: u8, p: u64, wanted: u64) -> u64
     requires { PlaceGiven f p }
     ensures { (arities : List ℕ) → Calls (woven_moves arities delta.entry.words.now (get_or delta.entry.heads.now 64 0)) wanted f p result }

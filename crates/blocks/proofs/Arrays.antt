@@ -1,13 +1,11 @@
 -- Arrays that are filled from the front.
 use mathlib.Core.Path.{◌≡◌, refl, ap, ◌∙◌}
-use mathlib.Core.List.Memᴰ
 use mathlib.Core.List.{List, [], ◌∷◌, ◌++◌, map, append-nil, Memᴰ}
 use Prim.Native.Nat.{ℕ, zero, suc, ◌+◌, ◌-◌, ◌≤◌, ◌<◌}
 use native.Mathlib.Omega.{arith}
-use native.Mathlib.Numerals.{add-one}
 use lib.ListN.{length, drop, take, get_or, set, drop_of_length-le}
 use borrow.Rule.Slice.PartMut.{put_mid}
-use lib.Seq.{drop-cons, length-take-le, get_or-take, take_at, drop_at}
+use lib.Seq.{take_at, drop_at}
 use Rattle.theory.specs.Lists.{count_from}
 use Rattle.fields.specs.Padded.{padded}
 use Rattle.blocks.specs.Packed.{filled}
@@ -64,12 +62,6 @@ padded_front (suc m) (suc n) (x ∷ xs) h = ap (λ (l : List ℕ). x ∷ l) (pad
 pub second_half : {X : Type 0} (k : ℕ) (xs zs ys : List X) → length xs ≡ k → length zs ≡ k → put_mid k k (xs ++ zs) ys ≡ xs ++ ys
 second_half k xs zs ys e f = rw (take_at xs zs k e, drop_at xs zs k e, drop_of_length-le zs {i = k} (omega arith), append-nil ys)
 
--- the first n of a list, from the i-th on
-pub taken_cons : (items : List ℕ) (n i : ℕ) → n ≤ length items → i < n → drop i (take n items) ≡ get_or items i 0 ∷ drop (i + 1) (take n items)
-taken_cons items n i fits h =
-    let l = length-take-le n items fits in
-    rw (add-one i, drop-cons (take n items) i 0 (omega arith), get_or-take n items i 0 h)
-
 pub padded_get : (n : ℕ) (xs : List ℕ) (i : ℕ) → i < n → get_or (padded n xs) i 0 ≡ get_or xs i 0
 unfolding padded
 padded_get zero xs i h = absurd (omega arith)
@@ -116,9 +108,6 @@ pub list_low : (m : ℕ) (xs : List ℕ) → ((q : ℕ) → Memᴰ q xs → q �
 list_low m [] h i = omega arith
 list_low m (q ∷ xs) h zero = h q (Memᴰ.head refl)
 list_low m (q ∷ xs) h (suc i) = list_low m xs (λ x p. h x (Memᴰ.tail p)) i
-
-pub mem_low : {X : Type 0} (f : X → ℕ) (m : ℕ) (xs : List X) → ((x : X) → Memᴰ x xs → f x ≤ m) → (i : ℕ) → get_or (map f xs) i 0 ≤ m
-mem_low f m xs h = list_low m (map f xs) (λ q p. let (x, k, e) = Memᴰ.of_map f xs p in rw (← e) (h x k))
 
 -- a part of a list is no higher
 pub taken_low : (m : ℕ) (xs : List ℕ) (n : ℕ) → ((i : ℕ) → get_or xs i 0 ≤ m) → (i : ℕ) → get_or (take n xs) i 0 ≤ m

@@ -1,6 +1,6 @@
 -- A reading as the code hands it over: what was read, packed into arrays, with the place behind it; or the refusal.
-use Rattle.std.specs.Prelude.{◌≡◌, false, List, ℕ, ◌≤◌, length, drop, get_or, Some, Result, Ok, Err}
-use Rattle.paper.specs.Limits.{most_symbols, most_arity, most_states, most_transitions}
+use Rattle.std.specs.Prelude.{◌≡◌, false, List, ℕ, drop, Some, Result, Ok, Err}
+use Rattle.paper.specs.Limits.{most_states, most_transitions}
 use Rattle.paper.specs.Certificate.{row}
 use Rattle.paper.specs.Format.{Reading, refused, gave}
 use Rattle.verdicts.specs.declared.refusals.Refusal.{Refusal}
@@ -27,12 +27,6 @@ pub record Stopped {X : Type 0} (reading : Reading X) (r : Refusal) : Type 0 whe
 abbrev pub Handed : {X T : Type 0} → (file : List ℕ) → (pack : X → T) → Reading X → Result (T × Cursor) Refusal → Type 0
 Handed file pack reading (Ok (packed, c)) = Went file pack reading c packed
 Handed file pack reading (Err r) = Stopped reading r
-
--- The listed symbols, of arity 3 at most.
-pub record Signature (arities : List ℕ) : Type 0 where
-  pub some : 1 ≤ length arities
-  pub few : length arities ≤ most_symbols
-  pub low : (k : ℕ) → get_or arities k 0 ≤ most_arity
 
 -- The kinds of an automaton's lines: a number, a list of final states, a count of transitions; and that of its transitions, where a line has entries.
 pub record AutomatonKinds (kinds : TableKinds) : Type 0 where

@@ -7,10 +7,11 @@ ghost use Rattle.fields.specs.Line.{kind_of, line_row};
 ghost use Rattle.fields.specs.Said.{Placed};
 ghost use Rattle.blocks.specs.Packed.{mask_from, packed_rows, table_of};
 ghost use Rattle.blocks.specs.Draft.{automaton};
-ghost use Rattle.blocks.specs.Handed.{Handed, AutomatonKinds, Signature};
+ghost use Rattle.blocks.specs.Handed.{Handed, AutomatonKinds};
 
 use fields::cursor::Cursor;
 use fields::rows::Kind;
+use fields::signature::Signature;
 use sets::with;
 use tables::{ROW, ROWS, Table};
 use verdicts::Refusal;
@@ -57,22 +58,21 @@ fn transitions(
     start: Cursor,
     file: &[u8],
     kind: Kind,
-    arities: &[u8],
+    signature: Signature,
     states: u32,
     n: usize,
 ) -> Result<([u8; ROWS], Cursor), Refusal>
     requires entries { (line_row kind).empty ≡ false }
-    requires signature { Signature arities.now }
     requires le_states { (1 ≤ states) × (states ≤ most_states) }
     requires n_bound { n ≤ most_transitions }
     requires placed { Placed file.now start }
     ensures { Handed file.now packed_rows
-        (times n (line_of (line_row kind).key (transition arities.now states)) start.line (drop start.at file.now)) result }
+        (times n (line_of (line_row kind).key (transition signature.entry.arities.now states)) start.line (drop start.at file.now)) result }
 {
     let mut c = start;
     let mut rows = [0u8; ROWS];
     for i in 0..n {
-        let (t, next) = c.trans_line(file, kind, arities, states)?;
+        let (t, next) = c.trans_line(file, kind, signature, states)?;
         let at = ROW * i;
         rows[at..at + ROW].copy_from_slice(&[t.symbol, t.a, t.b, t.c, t.target]);
         c = next;
@@ -86,20 +86,19 @@ pub fn read_table(
     c: Cursor,
     file: &[u8],
     kinds: TableKinds,
-    arities: &[u8],
+    signature: Signature,
 ) -> Result<(Table, Cursor), Refusal>
     requires kinds { AutomatonKinds kinds }
-    requires signature { Signature arities.now }
     requires placed { Placed file.now c }
     ensures { Handed file.now table_of
-        (automaton (kind_of kinds.states) (kind_of kinds.finals) (kind_of kinds.count) (line_row kinds.row).key arities.now
-        c.line (drop c.at file.now)) result }
+        (automaton (kind_of kinds.states) (kind_of kinds.finals) (kind_of kinds.count) (line_row kinds.row).key
+        signature.entry.arities.now c.line (drop c.at file.now)) result }
 {
     let (states, second) = c.number_line(file, kinds.states)?;
     let (finals, third) = second.final_line(file, kinds.finals, states)?;
     let (n, first_row) = third.number_line(file, kinds.count)?;
     let count = n as usize;
-    let (rows, next) = transitions(first_row, file, kinds.row, arities, states, count)?;
+    let (rows, next) = transitions(first_row, file, kinds.row, signature, states, count)?;
     let table = Table {
         states: states as usize,
         finals: mask_of(&finals.items[..finals.count]),

@@ -4,9 +4,10 @@ ghost use Rattle.paper.specs.Limits.{most_rules};
 ghost use Rattle.paper.specs.Format.{rule as paper_rule, times};
 ghost use Rattle.fields.specs.Said.{Placed};
 ghost use Rattle.blocks.specs.Packed.{rule_of, packed_rules};
-ghost use Rattle.blocks.specs.Handed.{Handed, Signature};
+ghost use Rattle.blocks.specs.Handed.{Handed};
 
 use fields::cursor::Cursor;
+use fields::signature::Signature;
 use sides::{Side, left_line, right_line};
 use tables::{RULE, RULES, Rule, Rules, SIDE};
 use verdicts::Refusal;
@@ -29,13 +30,12 @@ fn put_side(tokens: &mut [u8], side: &Side)
 
 // A line `l=` and a line `r=`.
 #[tactic(auto, using(crate::proofs::RuleLaws::rule_lines))]
-fn rule(c: Cursor, file: &[u8], arities: &[u8]) -> Result<(Rule, Cursor), Refusal>
-    requires signature { Signature arities.now }
+fn rule(c: Cursor, file: &[u8], signature: Signature) -> Result<(Rule, Cursor), Refusal>
     requires placed { Placed file.now c }
-    ensures { Handed file.now rule_of (paper_rule arities.now c.line (drop c.at file.now)) result }
+    ensures { Handed file.now rule_of (paper_rule signature.entry.arities.now c.line (drop c.at file.now)) result }
 {
-    let (left, second) = left_line(c, file, arities)?;
-    let (right, next) = right_line(second, file, arities, left.variables)?;
+    let (left, second) = left_line(c, file, signature)?;
+    let (right, next) = right_line(second, file, signature, left.variables)?;
     let mut tokens = [0u8; RULE];
     put_side(&mut tokens[..SIDE], &left);
     put_side(&mut tokens[SIDE..], &right);
@@ -52,19 +52,18 @@ fn rule(c: Cursor, file: &[u8], arities: &[u8]) -> Result<(Rule, Cursor), Refusa
 pub fn read_rules(
     start: Cursor,
     file: &[u8],
-    arities: &[u8],
+    signature: Signature,
     n: usize,
 ) -> Result<(Rules, Cursor), Refusal>
     requires n_bound { n ≤ most_rules }
-    requires signature { Signature arities.now }
     requires placed { Placed file.now start }
     ensures { Handed file.now packed_rules
-        (times n (paper_rule arities.now) start.line (drop start.at file.now)) result }
+        (times n (paper_rule signature.entry.arities.now) start.line (drop start.at file.now)) result }
 {
     let mut c = start;
     let mut rules = [NO_RULE; RULES];
     for i in 0..n {
-        let (one, next) = rule(c, file, arities)?;
+        let (one, next) = rule(c, file, signature)?;
         rules[i] = one;
         c = next;
     }

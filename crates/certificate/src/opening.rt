@@ -9,6 +9,7 @@ use blocks::automata::{BAD, INITIAL, read_table};
 use blocks::rules::read_rules;
 use fields::cursor::Cursor;
 use fields::rows::Kind;
+use fields::signature::Signature;
 use tables::Tables;
 use verdicts::Refusal;
 
@@ -20,11 +21,13 @@ pub fn read_tables(start: Cursor, file: &[u8]) -> Result<(Tables, Cursor), Refus
 {
     let (budget, second) = start.number_line(file, Kind::Budget)?;
     let (listed, third) = second.arities_line(file)?;
-    let arities = &listed.items[..listed.count];
-    let (initial, bad_line) = read_table(third, file, INITIAL, arities)?;
-    let (bad, count_line) = read_table(bad_line, file, BAD, arities)?;
+    let signature = Signature {
+        arities: &listed.items[..listed.count],
+    };
+    let (initial, bad_line) = read_table(third, file, INITIAL, signature)?;
+    let (bad, count_line) = read_table(bad_line, file, BAD, signature)?;
     let (n, first_rule) = count_line.number_line(file, Kind::Rules)?;
-    let (rules, next) = read_rules(first_rule, file, arities, n as usize)?;
+    let (rules, next) = read_rules(first_rule, file, signature, n as usize)?;
     let tables = Tables {
         budget,
         symbols: listed.count,

@@ -13,7 +13,7 @@ use crate::first_question::sharing;
 use crate::second_question::closure;
 use verdicts::{Closure, FinalPair, NO_CLASS, Reason, Refusal};
 
-// What stands where there is no class, no state and no rule.
+// What C reads where there is no class, no state and no rule.
 const NONE: u32 = NO_CLASS as u32;
 
 // A reason's number, and 0 for none.
@@ -37,7 +37,7 @@ pub fn mergecheck(file: &[u8], out: &mut [u8]) -> u64
     number(a.reason) as u64 * 256 + a.length as u64
 }
 
-// An answer for C: which it is, and what it says.
+// An answer for C, which takes numbers: which it is, and what it says.
 #[derive(Clone, Copy)]
 pub struct Numbers<const N: usize> {
     pub kind: u32,

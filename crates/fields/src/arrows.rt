@@ -1,12 +1,12 @@
 // The lines of transitions.
-ghost use Rattle.std.specs.Prelude.{◌≡◌, ℕ, ◌≤◌, ◌<◌, length, get_or, false};
-ghost use Rattle.paper.specs.Limits.{most_arity};
+ghost use Rattle.std.specs.Prelude.{◌≡◌, ◌≤◌, ◌<◌, false};
 ghost use Rattle.fields.specs.Line.{line_row};
 ghost use Rattle.fields.specs.Said.{Placed, ArrowLine};
 ghost use Rattle.fields.specs.Trans.{arg_in};
 
 use crate::cursor::{Cursor, Sort};
 use crate::rows::Kind;
+use crate::signature::Signature;
 use verdicts::{Reason, Refusal};
 
 // A transition: its symbol, its arguments (0 past the symbol's arity) and its target.
@@ -32,22 +32,21 @@ fn arg_in(items: &[u8], i: usize) -> u8
 }
 
 impl Cursor {
-    // A line of a transition over the symbols with these arities, and so many states.
+    // A line of a transition over the symbols of this signature, and so many states.
     #[tactic(auto, unfolding(crate::specs::Listed::Limited))]
     pub fn trans_line(
         self,
         file: &[u8],
         kind: Kind,
-        arities: &[u8],
+        signature: Signature,
         states: u32,
     ) -> Result<(Trans, Cursor), Refusal>
         requires some { (line_row kind).empty ≡ false }
         requires placed { Placed file.now self }
-        requires le_symbols { (1 ≤ length arities.now) × (length arities.now ≤ 64) }
         requires le_states { (1 ≤ states) × (states ≤ 64) }
-        requires by_index { (k : ℕ) → get_or arities.now k 0 ≤ most_arity }
-        ensures { ArrowLine file.now arities.now kind states self result }
+        ensures { ArrowLine file.now signature.entry.arities.now kind states self result }
     {
+        let arities = signature.arities;
         let sort = Sort::Numbers {
             first: arities.len() as u32 - 1,
             rest: states - 1,

@@ -11,10 +11,11 @@ use verdicts::{Reason, Refusal};
 // How many digits a number may have.
 const DIGITS: u32 = 8;
 
-// A token's number where it is no token of any certificate: past every limit.
+// A token's number where it is no token of any certificate: past every limit, so that it is refused with all other entries that are.
 const NO_TOKEN: u32 = 255;
 
-// A place in the file, and the number of its line.
+// A place in the file, and the number of its line. The file stands beside it as a slice, as the scope asks (docs/DECISIONS.md, 31), so that the place is in
+// it (`Placed`) is asked of each line.
 #[derive(Clone, Copy)]
 pub struct Cursor {
     pub at: usize,
@@ -28,7 +29,8 @@ pub struct Taken {
     pub end: usize,
 }
 
-// What the entries of a list are: numbers, the first at most `first` and each other at most `rest`; or tokens, over so many symbols.
+// What the entries of a list are: numbers, the first at most `first` and each other at most `rest`; or tokens, over so many symbols. An enum has no ghost
+// field, so that the limits are bytes (`Limited`) is asked where a list is read.
 #[derive(Clone, Copy)]
 pub enum Sort {
     Numbers { first: u32, rest: u32 },

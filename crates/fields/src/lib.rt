@@ -7,3 +7,4 @@ pub mod cursor;
 pub mod lines;
 pub mod lists;
 pub mod rows;
+pub mod signature;

@@ -14,7 +14,8 @@ use verdicts::{Reason, Refusal};
 // How many entries of a list are kept; more than any line may have.
 pub const ROOM: usize = 64;
 
-// The entries of a list: the first 64 of them, how many there are, and whether each is above the one before.
+// The entries of a list: the first 64 of them, how many there are (no heap: the array has room for the most that a line may have), and whether each is above
+// the one before.
 #[derive(Clone, Copy)]
 pub struct Items {
     pub items: [u8; ROOM],
@@ -116,6 +117,7 @@ impl Cursor {
         let mut at = from;
         let mut seen = Seen::none();
         let mut items = [0u8; ROOM];
+        // No index is counted here: the cursor jumps from one entry's end to the next.
         loop {
             let Some(Taken { value, end }) = entry(file, at, sort) else {
                 return Err(Reason::NoValue);

@@ -3,7 +3,7 @@ use mathlib.Core.Path.{◌≡◌, refl, sym, ap, ap₂, ◌∙◌}
 use mathlib.Core.Logic.{◌↔◌}
 use mathlib.Core.Bool.{Bool, true}
 use mathlib.Core.List.{List, [], ◌∷◌, map, map-map, Memᴰ}
-use Prim.Native.Nat.{ℕ, zero, suc, ◌+◌, ◌*◌, ◌≤◌, ◌<◌}
+use Prim.Native.Nat.{ℕ, zero, suc, ◌+◌, ◌*◌, ◌/◌, ◌≤◌, ◌<◌}
 use native.Mathlib.Omega.{arith}
 use lib.ListN.{length, get_or, take, get_or-eq_default}
 use lib.Dec.{eqb}
@@ -148,9 +148,9 @@ module _ (t : Tables) (m : Merging) (s : Sound t m) where
     abbrev there : List ℕ
     there = take (t.bad.count * 5) t.bad.rows
 
-    same_here : (flat ar here).transitions ≡ (merged_of t m).transitions
-    unfolding automaton_of held
-    same_here = moves_take ar bytes t.initial.count (omega (arith, w.long, few_initial)) ∙ moves_merged bytes w
+    -- The merged rows alone are the merged automaton's transitions.
+    pub moves_here : moves_of ar here (length here / 5) ≡ (merged_of t m).transitions
+    moves_here = moves_take ar bytes t.initial.count (omega (arith, w.long, few_initial)) ∙ moves_merged bytes w
 
     same_there : (flat ar there).transitions ≡ (bad_of t).transitions
     unfolding automaton_of
@@ -158,8 +158,8 @@ module _ (t : Tables) (m : Merging) (s : Sound t m) where
 
     marked : (pairs : List ℕ) → Exact here there ar pairs → (q p : ℕ) → (mem (get_or pairs q 0) p ≡ true) ↔ Share (merged_of t m) (bad_of t) q p
     marked pairs e q p = (
-      λ h. share_more (flat ar here) (flat ar there) (merged_of t m) (bad_of t) q p (λ tr n. rw same_here at n) (λ tr n. rw same_there at n) ((e q p).0 h),
-      λ h. (e q p).1 (share_more (merged_of t m) (bad_of t) (flat ar here) (flat ar there) q p (λ tr n. rw (← same_here) at n) (λ tr n. rw (← same_there) at n) h),
+      λ h. share_more (flat ar here) (flat ar there) (merged_of t m) (bad_of t) q p (λ tr n. rw moves_here at n) (λ tr n. rw same_there at n) ((e q p).0 h),
+      λ h. (e q p).1 (share_more (merged_of t m) (bad_of t) (flat ar here) (flat ar there) q p (λ tr n. rw (← moves_here) at n) (λ tr n. rw (← same_there) at n) h),
     )
 
     -- What is found over the marked pairs is the pair that the paper names.

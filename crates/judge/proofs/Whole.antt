@@ -2,9 +2,10 @@
 use mathlib.Core.Path.{◌≡◌, refl, sym, ap, ◌∙◌, subst}
 use mathlib.Core.List.Memᴰ
 use mathlib.Core.List.{List, [], ◌∷◌, Memᴰ}
-use Prim.Native.Nat.{ℕ, zero, suc, ◌*◌, ◌≤◌, ◌<◌}
+use Prim.Native.Nat.{ℕ, zero, suc, ◌*◌, ◌/◌, ◌≤◌, ◌<◌}
 use native.Mathlib.Omega.{arith}
-use lib.ListN.{get_or, take, length-map}
+use lib.ListN.{length, get_or, take, length-map}
+use lib.Seq.{length-take-le}
 use Rattle.theory.specs.Lists.{count_from}
 use Rattle.theory.specs.Automaton.{Automaton, Transition, InRange, class_of, classes, merge_transition, merged}
 use Rattle.theory.proofs.Count.{length_count, order_mem}
@@ -25,7 +26,7 @@ use Rattle.verdicts.specs.declared.Closure.{Closure}
 use Rattle.verdicts.specs.Said.{Tells}
 use Rattle.judge.specs.Merged.{Merged}
 use Rattle.judge.specs.Judged.{merged_of}
-use Rattle.judge.proofs.Bridge.{few_initial, few_states, rank, moves_merged}
+use Rattle.judge.proofs.Bridge.{few_initial, few_states, rank, shareable, moves_here}
 
 -- Every argument of a merged transition is a class.
 arguments_low : (merge : List ℕ) (A : Automaton) (tr : Transition) → Memᴰ tr (merged merge A).transitions → (c : ℕ) → Memᴰ c tr.arguments → c < classes merge
@@ -59,22 +60,28 @@ module _ (t : Tables) (m : Merging) (s : Sound t m) where
   searchable = record { sound = s.rules; shaped = λ rule n. (s.well.rules rule n).shaped; few = s.few; rules_bound = few_rules }
 
   module _ (bytes : List ℕ) (w : Merged t.initial.rows m.merge (t.initial.count * 5) bytes) where
-    -- The merged rows can be woven.
-    pub weavable : Flat bytes t.initial.count
-    weavable = record { long = omega (arith, w.long, few_initial t m s); most = few_initial t m s; small = w.small }
+    abbrev here : List ℕ
+    here = take (t.initial.count * 5) bytes
 
-    module _ (words heads : List ℕ) (indexed : Indexed words heads) (same : SameMoves bytes words heads t.initial.count) where
+    -- The merged rows can be woven.
+    pub weavable : Flat here
+    weavable = record {
+      most = omega (arith, length-take-le (t.initial.count * 5) bytes (omega (arith, w.long, few_initial t m s)), few_initial t m s);
+      small = (shareable t m s bytes w).small;
+    }
+
+    module _ (words heads : List ℕ) (indexed : Indexed words heads) (same : SameMoves here words heads (length here / 5)) where
       abbrev woven : Automaton
       woven = woven_automaton ar words heads m.classes
 
       -- The words mean the merged automaton's transitions.
       there : Contained woven (merged_of t m)
       unfolding woven_automaton
-      there tr n = rw (moves_merged t m s bytes w) at ((same.same ar tr).0 n)
+      there tr n = rw (moves_here t m s bytes w) at ((same.same ar tr).0 n)
 
       back : Contained (merged_of t m) woven
       unfolding woven_automaton
-      back tr n = (same.same ar tr).1 (rw (← moves_merged t m s bytes w) at n)
+      back tr n = (same.same ar tr).1 (rw (← moves_here t m s bytes w) at n)
 
       inside : InRange woven
       unfolding woven_automaton merged

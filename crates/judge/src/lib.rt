@@ -1,4 +1,5 @@
-// The judgement: the two questions, and the verdict that is put together from them.
+// The judgement: the two questions, and the verdict that is put together from them. What is asked of a certificate (`Sound`) is no invariant of its type: it
+// says what is a member of which list, of which there may be more than one proof, and a ghost field takes one.
 #![tactic(auto)]
 
 pub mod merged;
@@ -17,7 +18,7 @@ use merged::merged_rows;
 use search::search;
 use sets::WIDTH;
 use suitable::shared_pair;
-use tables::{Certificate, ROWS, Rules, TRANSITIONS};
+use tables::{Certificate, ROW, ROWS, Rules};
 use values::{SHEETS, WORDS};
 use verdicts::{Closure, FinalPair, Verdict, where_suitable};
 use woven::{Automaton, weave};
@@ -78,17 +79,17 @@ fn search_fitted(delta: Automaton, rules: &Rules, budget: u32) -> Closure
 }
 
 // The first critical pair of the merged automaton, whose rows are `merged`, within the budget.
+#[tactic(auto, using(crate::proofs::Bridge::few_initial))]
 pub fn first_critical(c: &Certificate, merged: &[u8; ROWS]) -> Closure
     requires sound { Sound c.now.tables c.now.merging }
     requires merged { Merged c.now.tables.initial.rows c.now.merging.merge (c.now.tables.initial.count * 5) merged.now }
     ensures { Tells (closure_over (merged_of c.now.tables c.now.merging) (rules_of (arities_of c.now.tables) c.now.tables.rules) c.now.tables.budget) result }
 {
     let t = &c.tables;
-    let mut words = [0u64; TRANSITIONS];
-    let heads = weave(merged, t.initial.count, &mut words);
+    let woven = weave(&merged[..t.initial.count * ROW]);
     let delta = Automaton {
-        words: &words,
-        heads: &heads,
+        words: &woven.words,
+        heads: &woven.heads,
         arities: &t.arities[..t.symbols],
         states: c.merging.classes,
     };

@@ -1,4 +1,4 @@
--- What stays where rows are changed: the sets of the variables whose rows are not, and what judging a rule relies on.
+-- What stays where rows are changed: the sets of the variables whose rows are not.
 use mathlib.Core.Path.{◌≡◌, ◌∙◌}
 use mathlib.Core.Logic.{◌⊎◌, inl, inr}
 use mathlib.Core.List.{List, []}
@@ -9,7 +9,7 @@ use native.Mathlib.Omega.{arith}
 use lib.ListN.{length, get_or}
 use Rattle.values.specs.Lanes.{given}
 use Rattle.values.proofs.Sheets.{same_lane}
-use Rattle.lanes.specs.Batches.{Touched, Fixed, BothTouched, Untouched, Judgeable}
+use Rattle.lanes.specs.Batches.{Touched, Fixed, BothTouched, Untouched}
 
 module _ (k : ℕ) (m after : List (List ℕ)) where
   -- The rows of the variable x are as they were.
@@ -37,12 +37,3 @@ module _ (k : ℕ) (m after : List (List ℕ)) where
 
   pub untouched_rows : Untouched k m after → (x : ℕ) → SameRows x
   untouched_rows u x q hq = u.same ((48 + x) * k + q) (omega arith)
-
-  pub judgeable_stays : {arities tokens : List ℕ} → length after ≡ length m → Judgeable arities tokens k m → Judgeable arities tokens k after
-  judgeable_stays long j = record {
-    tokens_long = j.tokens_long;
-    left = j.left;
-    right = j.right;
-    symbol = j.symbol;
-    room = omega (arith, j.room);
-  }

@@ -62,9 +62,6 @@ module _ (k : ℕ) where
   pub sheet_room : (x : ℕ) (m : List (List ℕ)) → Roomy k m → x < 4 → (48 + x) * k + k ≤ length m
   sheet_room x m roomy h = room k (48 + x) (omega arith) roomy
 
-  pub sheet_low : (x : ℕ) → x < 4 → k ≤ 64 → (48 + x) * k + k ≤ 3328
-  sheet_low x h low = omega (arith, room k (48 + x) {n = 52 * k} (omega arith) (omega arith))
-
   module _ (m after : List (List ℕ)) where
     pub touched : (x : ℕ) → Within k m ((48 + x) * k) after → Touched k x (x + 1) m after
     touched x only = record {

@@ -30,7 +30,7 @@ fn alive<'a>(delta: Automaton<'a>, tokens: &'a [u8], xs: &'a [u8], m: &mut [[u64
     left_lanes(m, k)
 }
 
-// Whether some pair of classes of the two variables after the prefix may have a critical pair.
+// Whether some pair of classes of the two variables after the prefix may have a critical pair. It stops at the first, where `sweep` gathers a mask.
 fn pairs<'a>(delta: Automaton<'a>, tokens: &'a [u8], xs: &'a [u8], m: &mut [[u64; WORDS]]) -> bool
     requires { Judgeable delta.arities.now tokens.now delta.states m.old × Prefix delta.states 2 xs.now }
     ensures { ((rule : Rule) → Spelled delta.entry.arities.now tokens.now rule

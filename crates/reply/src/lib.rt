@@ -59,7 +59,7 @@ pub fn reply_closure(file: &[u8], out: &mut [u8]) -> usize
     answer::write_closure(checker::closure(file), out)
 }
 
-// Asks a question.
+// Asks a question: three that are fixed, each with a contract of its own, so a match and no function to be handed in.
 #[tactic(auto, unfolding(crate::specs::Placed::answer_to))]
 pub fn ask(question: Question, file: &[u8], out: &mut [u8]) -> usize
     ensures { Placed (answer_to question file.now) out.old result out.new }
@@ -78,6 +78,7 @@ pub fn read_full<R: Read>(input: &mut R, buf: &mut [u8]) -> io::Result<usize>
     ensures to_the_end { IfOk result (λ n. n < length buf.new → IsAtEnd (R.remaining input.new)) }
 {
     let mut done = 0;
+    // No index is counted: a read gives as many bytes as it likes.
     while done < buf.len() {
         let got = input.read(&mut buf[done..])?;
         if got == 0 {

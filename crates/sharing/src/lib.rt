@@ -19,7 +19,7 @@ pub fn share<'a>(merged: &'a [u8], bad: &'a [u8], ar: &'a [u8]) -> [u64; WIDTH]
         arities: ar,
     };
     let mut pairs = [0u64; WIDTH];
-    // All rows are new before the first pass.
+    // All rows are new before the first pass. No index is counted: it ends when a pass adds nothing.
     let mut dirty = ALL;
     while dirty != 0 {
         dirty = tables.pass(&mut pairs, dirty);

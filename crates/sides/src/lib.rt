@@ -3,17 +3,17 @@
 
 ghost use Rattle.std.specs.Prelude.{◌≡◌, ◌≤◌, ◌<◌, length};
 ghost use Rattle.std.specs.List.{list_all};
-ghost use Rattle.paper.specs.Limits.{most_symbols};
 ghost use Rattle.fields.specs.Said.{Placed, said_items};
 ghost use Rattle.sides.specs.Tokens.{closes, open_terms, is_one, step_lined, lined, known, TokenKind, TermLine, LeftLine, RightLine};
 
 use fields::cursor::Cursor;
 use fields::lists::{Items, ROOM};
 use fields::rows::Kind;
+use fields::signature::Signature;
 use tables::{VARIABLE, arity};
 use verdicts::{Reason, Refusal};
 
-// A side of a rule: its tokens, and how many variables the rule has.
+// A side of a rule: its tokens, the first `count` (there is no heap), and how many variables the rule has.
 #[derive(Clone, Copy)]
 pub struct Side {
     pub tokens: [u8; ROOM],
@@ -100,13 +100,18 @@ fn tokens_of(it: &Items) -> &[u8]
     &it.items[..it.count]
 }
 
-// A line of one term over the symbols with these arities.
-fn term_line(c: Cursor, file: &[u8], kind: Kind, arities: &[u8]) -> Result<(Items, Cursor), Refusal>
+// A line of one term over the symbols of this signature.
+fn term_line(
+    c: Cursor,
+    file: &[u8],
+    kind: Kind,
+    signature: Signature,
+) -> Result<(Items, Cursor), Refusal>
     requires kind_bound { TokenKind kind }
-    requires le_symbols { length arities.now ≤ most_symbols }
     requires placed { Placed file.now c }
-    ensures { TermLine file.now arities.now kind c result }
+    ensures { TermLine file.now signature.entry.arities.now kind c result }
 {
+    let arities = signature.arities;
     let (it, next) = c.term_line(file, kind, arities.len() as u32)?;
     if !is_one_term(tokens_of(&it), arities) {
         return Err(c.refuse(Reason::NoTerm));
@@ -116,12 +121,11 @@ fn term_line(c: Cursor, file: &[u8], kind: Kind, arities: &[u8]) -> Result<(Item
 
 // A left side.
 #[tactic(auto, using(crate::proofs::Further::whole_it))]
-pub fn left_line(c: Cursor, file: &[u8], arities: &[u8]) -> Result<(Side, Cursor), Refusal>
-    requires le_symbols { length arities.now ≤ most_symbols }
+pub fn left_line(c: Cursor, file: &[u8], signature: Signature) -> Result<(Side, Cursor), Refusal>
     requires placed { Placed file.now c }
-    ensures { LeftLine file.now arities.now c result }
+    ensures { LeftLine file.now signature.entry.arities.now c result }
 {
-    let (it, next) = term_line(c, file, Kind::Left, arities)?;
+    let (it, next) = term_line(c, file, Kind::Left, signature)?;
     if VARIABLE <= it.items[0] {
         return Err(c.refuse(Reason::LeftVariables));
     }
@@ -140,12 +144,16 @@ pub fn left_line(c: Cursor, file: &[u8], arities: &[u8]) -> Result<(Side, Cursor
 
 // A right side, where the left side has v variables.
 #[tactic(auto, using(crate::proofs::Further::whole_it))]
-pub fn right_line(c: Cursor, file: &[u8], arities: &[u8], v: u8) -> Result<(Side, Cursor), Refusal>
-    requires le_symbols { length arities.now ≤ most_symbols }
+pub fn right_line(
+    c: Cursor,
+    file: &[u8],
+    signature: Signature,
+    v: u8,
+) -> Result<(Side, Cursor), Refusal>
     requires placed { Placed file.now c }
-    ensures { RightLine file.now arities.now c v result }
+    ensures { RightLine file.now signature.entry.arities.now c v result }
 {
-    let (it, next) = term_line(c, file, Kind::Right, arities)?;
+    let (it, next) = term_line(c, file, Kind::Right, signature)?;
     if !all_known(tokens_of(&it), v) {
         return Err(c.refuse(Reason::UnknownVariable));
     }

@@ -40,7 +40,7 @@ pub const VARIABLE: u8 = SYMBOLS as u8;
 pub const LAST_VARIABLE: u8 = VARIABLES as u8 - 1;
 
 // One automaton, A or B. Its states are the numbers below `states`, and bit q of `finals` says that the state q is final.
-// Transition i stands in the ROW bytes of `rows` from ROW * i on.
+// Transition i stands in the ROW bytes of `rows` from ROW * i on, for the first `count`: there is no heap, so the array has room for the most.
 #[derive(Clone, Copy)]
 pub struct Table {
     pub states: usize,
@@ -59,7 +59,7 @@ pub struct Rule {
     pub variables: u8,
 }
 
-// The rules: the first `count` of them.
+// The rules: the first `count` of them. There is no heap, so the array has room for the most that there may be.
 #[derive(Clone, Copy)]
 pub struct Rules {
     pub count: usize,

@@ -2,11 +2,11 @@
 use mathlib.Core.Path.{◌≡◌, refl, sym, ap, ◌∙◌}
 use mathlib.Core.List.Memᴰ
 use mathlib.Core.List.{List, [], ◌∷◌}
-use Prim.Native.Nat.{ℕ, zero, suc, ◌+◌, ◌-◌, ◌*◌, ◌≤◌, ◌<◌}
+use Prim.Native.Nat.{ℕ, zero, suc, ◌+◌, ◌-◌, ◌*◌, ◌/◌, ◌≤◌, ◌<◌}
 use native.Mathlib.Numerals.{add-one}
 use native.Mathlib.Decide.{dec_lt}
 use native.Mathlib.Omega.{arith}
-use lib.ListN.{get_or, take}
+use lib.ListN.{length, get_or, take}
 use Rattle.theory.specs.Lists.{count_from}
 use Rattle.theory.specs.Automaton.{◌of◌gives◌}
 use Rattle.theory.proofs.Count.{mem_order, order_mem}
@@ -50,21 +50,6 @@ module _ (words heads : List ℕ) (d : Indexed words heads) (f : ℕ) (hf : f < 
   pub within : get_or heads (f + 1) 0 ≤ get_or heads 64 0
   within = let top : f + 1 + (63 - f) ≡ 64 = omega arith in omega (arith, heads_rise d.sorted (f + 1) (63 - f) (omega arith), ap (λ x. get_or heads x 0) top)
 
--- A place among the words of f, up to their end.
-pub record Inside (heads : List ℕ) (f end i : ℕ) : Type 0 where
-  pub last : end ≡ get_or heads (f + 1) 0
-  pub low : get_or heads f 0 ≤ i
-  pub high : i ≤ end
-
-pub inside_first : {words heads : List ℕ} {f end i : ℕ} → Indexed words heads → f < 64 → end ≡ get_or heads (f + 1) 0 → i ≡ get_or heads f 0 → Inside heads f end i
-inside_first {f = f} d hf last first = record { last = last; low = omega arith; high = omega (arith, d.sorted.order f hf) }
-
-pub inside_next : {heads : List ℕ} {f end i : ℕ} → Inside heads f end i → i < end → Inside heads f end (i + 1)
-inside_next a h = record { last = a.last; low = omega (arith, a.low); high = omega arith }
-
-pub inside_room : {words heads : List ℕ} {f end i : ℕ} → Indexed words heads → f < 64 → Inside heads f end i → i < end → i < 128
-inside_room {words} {heads} {f} d hf a h = omega (arith, a.last, within words heads d f hf, d.room)
-
 -- A row's word means the row's transition.
 word_means : (arities rows : List ℕ) → ((x : ℕ) → get_or rows x 0 < 64) → (i : ℕ) → move_of arities (word_at rows i) ≡ move_at arities rows i
 unfolding move_of move_at symbol_at
@@ -72,7 +57,10 @@ word_means arities rows small i =
     let p = word_parts rows i small in
     λ z. p.symbol z of take (get_or arities (p.symbol z) 0) (p.first z ∷ (p.second z ∷ (p.third z ∷ []))) gives p.target z
 
-module _ {rows : List ℕ} {count : ℕ} (flat : Flat rows count) {words heads : List ℕ} {n : ℕ} (o : Ordered rows count words n) (hd : Headed words n 0 heads) where
+module _ {rows : List ℕ} (flat : Flat rows) {words heads : List ℕ} {n : ℕ} (o : Ordered rows (length rows / 5) words n) (hd : Headed words n 0 heads) where
+  abbrev count : ℕ
+  count = length rows / 5
+
   place : (f : ℕ) → f ≤ 64 → Place words n (f * 4294967296) (get_or heads f 0)
   place f h = hd.places f (omega arith) h
 
@@ -121,7 +109,7 @@ module _ {rows : List ℕ} {count : ℕ} (flat : Flat rows count) {words heads :
     room = omega (arith, last, o.most, flat.most);
   }
 
-  pub ordered_same : SameMoves rows words heads count
+  pub ordered_same : SameMoves rows words heads (length rows / 5)
   unfolding woven_moves moves_of symbol_at
   ordered_same = record {
     same = λ arities tr. (

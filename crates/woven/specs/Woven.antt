@@ -47,8 +47,7 @@ word_at rows i = packed (get_or rows (i * 5 + 1) 0) (get_or rows (i * 5 + 2) 0) 
 pub record SameMoves (rows words heads : List ℕ) (n : ℕ) : Type 0 where
   pub same : (arities : List ℕ) (tr : Transition) → Memᴰ tr (woven_moves arities words (get_or heads 64 0)) ↔ Memᴰ tr (moves_of arities rows n)
 
--- A flat table with n rows: there are that many, at most 128, and every byte is below 64.
-pub record Flat (rows : List ℕ) (n : ℕ) : Type 0 where
-  pub long : n * 5 ≤ length rows
-  pub most : n ≤ most_transitions
+-- A flat table: at most 128 rows, and every byte is below 64.
+pub record Flat (rows : List ℕ) : Type 0 where
+  pub most : length rows / 5 ≤ most_transitions
   pub small : (i : ℕ) → get_or rows i 0 < 64

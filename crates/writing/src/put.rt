@@ -1,4 +1,5 @@
-// Bytes, numbers and classes put into a buffer at a place; each function gives the place after them.
+// Bytes, numbers and classes put into a buffer at a place; each function gives the place after them. That there is room (`Room`) is said of the buffer, the
+// place and the bytes of each call, so no one value could carry it.
 ghost use Rattle.std.specs.Prelude.{◌≡◌, ◌∷◌, ◌+◌, ◌%◌};
 ghost use Rattle.paper.specs.Bytes.{comma};
 ghost use Rattle.paper.specs.Answer.{decimal, decimals};
@@ -17,7 +18,7 @@ pub fn put_bytes(out: &mut [u8], at: usize, bs: &[u8]) -> usize
     end
 }
 
-// A number's digits, at the end of ten bytes: no number of 32 bits has more.
+// A number's digits, at the end of ten bytes: no number of 32 bits has more. Where they start has a name, which a pair would not give it.
 #[derive(Clone, Copy)]
 pub struct Digits {
     pub bytes: [u8; 10],

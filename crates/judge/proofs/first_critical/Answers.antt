@@ -1,16 +1,15 @@
 -- `judge::first_critical` meets its contract: the woven rows are the merged automaton's transitions.
-use borrow.Author.Rules.{rules}
 use Rattle.tables.specs.Held.{arities_of}
 use Rattle.judge.proofs.Whole.{weavable, woven_ready, searchable, closure_told}
 use Rattle.judge.proofs.first_critical.Goals as goal
 
-pub weave-heads-requires : goal.weave-heads-requires
-weave-heads-requires c = (weavable _ _ c.requires.sound _ c.requires.merged, search rules)
+pub weave-woven-requires : goal.weave-woven-requires
+weave-woven-requires c = weavable _ _ c.requires.sound _ c.requires.merged
 
 pub invariant_of-delta : goal.invariant_of-delta
 unfolding arities_of
 invariant_of-delta c =
-    record { ready = woven_ready _ _ c.requires.sound _ c.requires.merged _ _ c.weave-heads.ensures.0 c.weave-heads.ensures.1 }
+    record { ready = woven_ready _ _ c.requires.sound _ c.requires.merged _ _ c.weave-woven.ensures.0 c.weave-woven.ensures.1 }
 
 pub search_fitted-requires : goal.search_fitted-requires
 unfolding arities_of
@@ -18,4 +17,4 @@ search_fitted-requires c = searchable _ _ c.requires.sound
 
 pub returns : goal.returns
 unfolding arities_of
-returns c = closure_told _ _ c.requires.sound _ c.requires.merged _ _ c.weave-heads.ensures.0 c.weave-heads.ensures.1 _ c.search_fitted.ensures
+returns c = closure_told _ _ c.requires.sound _ c.requires.merged _ _ c.weave-woven.ensures.0 c.weave-woven.ensures.1 _ c.search_fitted.ensures

@@ -7,4 +7,4 @@ use Rattle.blocks.proofs.Blocks.{Filling}
 use Rattle.blocks.proofs.automata.transitions.Given as goal
 
 abbrev pub invariant-loop-i : goal.invariant-loop-i
-invariant-loop-i l = Filling (line_of (line_row l.kind).key (transition l.arities l.states)) packed_rows l.file l.n l.initial.c l.i l.c l.rows
+invariant-loop-i l = Filling (line_of (line_row l.kind).key (transition l.signature.arities.now l.states)) packed_rows l.file l.n l.initial.c l.i l.c l.rows

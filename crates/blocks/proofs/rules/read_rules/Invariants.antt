@@ -5,4 +5,4 @@ use Rattle.blocks.proofs.Blocks.{Filling}
 use Rattle.blocks.proofs.rules.read_rules.Given as goal
 
 abbrev pub invariant-loop-i : goal.invariant-loop-i
-invariant-loop-i l = Filling (rule l.arities) packed_rules l.file l.n l.initial.c l.i l.c (record { count = l.i; rules = l.rules })
+invariant-loop-i l = Filling (rule l.signature.arities.now) packed_rules l.file l.n l.initial.c l.i l.c (record { count = l.i; rules = l.rules })
