@@ -16,7 +16,7 @@ use Rattle.paper.proofs.Smallest.{decided}
 use Rattle.paper.proofs.Numbers.{decimal_length}
 use Rattle.paper.proofs.Bounds.{eight_length, four_classes}
 use Rattle.verdicts.specs.Said.{class_then, classes_of}
-use Rattle.verdicts.specs.declared.CriticalPair.{CriticalPair}
+use Rattle.verdicts.specs.declared.critical_pair.CriticalPair.{CriticalPair}
 use Rattle.answer.specs.Shown.{shown, seven, seven_with, Says}
 use Rattle.answer.specs.declared.Shown.{Shown}
 use Rattle.answer.specs.declared.Shown.TheVariants.{Nothing, Number, Classes}

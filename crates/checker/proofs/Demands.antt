@@ -41,11 +41,10 @@ use Rattle.verdicts.specs.declared.FinalPair.{FinalPair}
 use Rattle.verdicts.specs.declared.Closure.{Closure}
 use Rattle.verdicts.specs.declared.Closure.TheVariants.{Closed}
 use Rattle.verdicts.specs.Refused.{number, reason_of, numbered, asked}
-use Rattle.verdicts.specs.Said.{said_sharing, said_closure, TellsOfFile}
+use Rattle.verdicts.specs.Said.{said_sharing, said_closure}
 use Rattle.verdicts.proofs.Told.{reason_back, one_sharing_of_file, one_closure_of_file}
 use Rattle.checker.specs.declared.Answered.{Answered}
 use Rattle.checker.specs.Gave.{gave, Answers, Begins}
-use Rattle.checker.proofs.Laws.{tells_says}
 
 -- The reason that has this number, and none for 0.
 abbrev reason_for : ℕ → RustOption Reason
@@ -197,32 +196,29 @@ module _ (file : List ℕ) (r : Result (RustOption FinalPair) Refusal) (given : 
   sharing_refusal_told number line = let (to, from) = sharing_refused file number line in (λ h. to (sym given ∙ h), λ e. given ∙ from e)
 
 -- The second. Two results that its contract allows are the same ..
-pub one_closure_answer : (file : List ℕ) (r s : Result Closure Refusal) → TellsOfFile (closure_of file) r → TellsOfFile (closure_of file) s → r ≡ s
-one_closure_answer file = one_closure_of_file (closure_of file)
+pub one_closure_answer : (file : List ℕ) (r s : Result Closure Refusal) → asked said_closure r ≡ closure_of file → asked said_closure s ≡ closure_of file → r ≡ s
+one_closure_answer file r s d e = one_closure_of_file r s (d ∙ sym e)
 
-module _ (file : List ℕ) (r : Result Closure Refusal) (given : TellsOfFile (closure_of file) r) where
-  says : asked said_closure r ≡ closure_of file
-  says = tells_says (closure_of file) r given
-
+module _ (file : List ℕ) (r : Result Closure Refusal) (given : asked said_closure r ≡ closure_of file) where
   -- .. it says what there is of critical pairs within the budget, both ways ..
   pub closure_told : (c : Certificate) → read_file file ≡ holds c → (k : Paper.Closure) → (asked said_closure r ≡ Asked.answered k) ↔ ClosureGiven c k
-  closure_told c e k = let (to, from) = closure_exactly file c e k in (λ h. to (sym says ∙ h), λ g. says ∙ from g)
+  closure_told c e k = let (to, from) = closure_exactly file c e k in (λ h. to (sym given ∙ h), λ g. given ∙ from g)
 
   -- .. or refuses the file as the reading does.
   pub closure_refusal_told : (number : ℕ) (line : Option ℕ) → (asked said_closure r ≡ Asked.refused number line) ↔ (read_file file ≡ unreadable number line)
-  closure_refusal_told number line = let (to, from) = closure_refused file number line in (λ h. to (sym says ∙ h), λ e. says ∙ from e)
+  closure_refusal_told number line = let (to, from) = closure_refused file number line in (λ h. to (sym given ∙ h), λ e. given ∙ from e)
 
   -- Where it says closed, the file holds tables, and every tree that A accepts, rewritten any number of times, is accepted by the merged automaton.
   pub closed_told : (n : ℕ) → r ≡ Ok (Closed n) → (c : Certificate) × (read_file file ≡ holds c) × ((s t : Tree) → Accepts c.A s → Rewrites c.rules s t → Accepts (merged c.merge c.A) t)
   unfolding asked said_closure
   closed_told n e =
-      let said : closure_of file ≡ Asked.answered (Paper.Closure.closed n) = sym says ∙ ap (asked said_closure) e in
+      let said : closure_of file ≡ Asked.answered (Paper.Closure.closed n) = sym given ∙ ap (asked said_closure) e in
       elim (closure_answers file) [
         | inl (number, line, f, h) ↦ let both : Asked.refused number line ≡ Asked.answered (Paper.Closure.closed n) = sym f ∙ said in let z : ◌≡◌ {A = ℕ} 0 1 = cc in absurd (omega arith)
         | inr (c, h, f) ↦ (c, h, closed_closes file n said c h)
       ]
 
 -- The verdict is what the two say together.
-pub told_together : (file : List ℕ) (r : Result (RustOption FinalPair) Refusal) (k : Result Closure Refusal) → asked said_sharing r ≡ sharing_of file → TellsOfFile (closure_of file) k
+pub told_together : (file : List ℕ) (r : Result (RustOption FinalPair) Refusal) (k : Result Closure Refusal) → asked said_sharing r ≡ sharing_of file → asked said_closure k ≡ closure_of file
     → verdict_of file ≡ together (asked said_sharing r) (asked said_closure k)
-told_together file r k d e = put_together file ∙ sym (ap₂ together d (tells_says (closure_of file) k e))
+told_together file r k d e = put_together file ∙ sym (ap₂ together d e)

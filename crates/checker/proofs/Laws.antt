@@ -1,5 +1,5 @@
 -- What a call returns lies within the buffer, and C can take it apart.
-use mathlib.Core.Path.{◌≡◌, sym, ap}
+use mathlib.Core.Path.{◌≡◌, ap}
 use mathlib.Core.List.{List}
 use mathlib.Core.Logic.{inl, inr}
 use Prim.Native.Nat.{ℕ, ◌≤◌, ◌<◌, ◌/◌, ◌%◌}
@@ -12,14 +12,6 @@ use Rattle.paper.specs.Contract.{Returned, returned}
 use Rattle.paper.proofs.Smallest.{decided}
 use Rattle.paper.proofs.Bounds.{answer_short}
 use Rattle.paper.proofs.Contract.{same_length}
-use Rattle.std.specs.declared.result.Result.{Result}
-use Rattle.std.specs.declared.result.Result.TheVariants.{Ok, Err}
-use Rattle.std.specs.Prelude.{IfOk}
-use Rattle.paper.specs.Meaning.{Closure as PaperClosure, Asked}
-use Rattle.verdicts.specs.declared.Closure.{Closure}
-use Rattle.verdicts.specs.declared.refusals.Refusal.{Refusal}
-use Rattle.verdicts.specs.Refused.{asked}
-use Rattle.verdicts.specs.Said.{said_closure, EndedIn, TellsOfFile}
 use Rattle.checker.specs.declared.Answered.{Answered}
 use Rattle.checker.specs.Gave.{Answers, packed}
 
@@ -43,15 +35,3 @@ within file buffer r left e =
       | inl d ↦ let z : (returned file buffer).written ≡ 0 = rw (d, returned) in omega arith
       | inr d ↦ omega (arith, written_short file buffer, same_length file buffer, ltb-false (length buffer) least_buffer d)
     ]
-
--- A file's answer to the second question says what it tells.
-pub tells_says : (k : Asked PaperClosure) (r : Result Closure Refusal) → TellsOfFile k r → asked said_closure r ≡ k
-unfolding asked TellsOfFile
-tells_says k (Ok r) t = sym t.0
-tells_says k (Err r) t = sym t
-
--- .. and a critical pair in it ends with the classes that the rule does not have.
-pub tells_ended : (k : Asked PaperClosure) (r : Result Closure Refusal) → TellsOfFile k r → IfOk r EndedIn
-unfolding TellsOfFile
-tells_ended k (Ok r) t = t.1
-tells_ended k (Err r) t = tt

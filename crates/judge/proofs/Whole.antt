@@ -22,8 +22,6 @@ use Rattle.woven.specs.Ready.{Ready}
 use Rattle.paper.proofs.SameTransitions.{examine_same}
 use Rattle.lanes.specs.Automaton.{woven_automaton}
 use Rattle.search.specs.Searched.{Searchable}
-use Rattle.verdicts.specs.declared.Closure.{Closure}
-use Rattle.verdicts.specs.Said.{Tells}
 use Rattle.judge.specs.Merged.{Merged}
 use Rattle.judge.specs.Judged.{merged_of}
 use Rattle.judge.proofs.Bridge.{few_initial, few_states, rank, shareable, moves_here}
@@ -108,13 +106,8 @@ module _ (t : Tables) (m : Merging) (s : Sound t m) where
           arguments_below tr n c l = omega (arith, s.classes, arguments_low (merge_of t m) (automaton_of ar t.initial) tr (there tr n) c l)
 
       -- What it says is what the paper says of the merged automaton.
-      closure_is : (budget : ℕ) → closure woven (rules_of ar t.rules) budget ≡ closure (merged_of t m) (rules_of ar t.rules) budget
+      pub closure_is : (budget : ℕ) → closure woven (rules_of ar t.rules) budget ≡ closure (merged_of t m) (rules_of ar t.rules) budget
       unfolding closure woven_automaton merged
       closure_is budget =
           examine_same woven (merged_of t m) there back s.classes (cases m.classes 0 (rules_of ar t.rules)) budget 0
           ∙ ap (λ k. examine (merged_of t m) (cases k 0 (rules_of ar t.rules)) budget 0) s.classes
-
-      -- So what it tells is told of the merged automaton.
-      pub closure_told : (budget : ℕ) {r : Closure} → Tells (closure woven (rules_of ar t.rules) budget) r
-          → Tells (closure (merged_of t m) (rules_of ar t.rules) budget) r
-      closure_told budget told = record { says = told.says ∙ closure_is budget; ended = told.ended }

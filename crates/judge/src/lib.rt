@@ -9,7 +9,7 @@ ghost use Rattle.std.specs.Prelude.{◌≡◌, ◌*◌, ◌≤◌};
 ghost use Rattle.paper.specs.Computed.{closure as closure_over, sharing_in, closure_in, verdict};
 ghost use Rattle.tables.specs.Held.{held, arities_of, rules_of};
 ghost use Rattle.tables.specs.Sound.{Sound};
-ghost use Rattle.verdicts.specs.Said.{said, said_sharing, Tells};
+ghost use Rattle.verdicts.specs.Said.{said, said_sharing, said_closure};
 ghost use Rattle.judge.specs.Merged.{Merged};
 ghost use Rattle.search.specs.Searched.{Searchable, searched};
 ghost use Rattle.judge.specs.Judged.{merged_of};
@@ -55,7 +55,7 @@ fn merged_of(c: &Certificate) -> [u8; ROWS]
 fn search_over<const N: usize>(delta: Automaton, rules: &Rules, budget: u32) -> Closure
     requires searchable { Searchable delta.arities.now rules.now }
     requires room { (52 * delta.states ≤ N) × (N ≤ 52 * 64) }
-    ensures { Tells (searched delta.entry rules.now budget) result }
+    ensures { said_closure result ≡ searched delta.entry rules.now budget }
 {
     let mut rows = [[0u64; WORDS]; N];
     search(delta, rules, budget, &mut rows)
@@ -64,7 +64,7 @@ fn search_over<const N: usize>(delta: Automaton, rules: &Rules, budget: u32) -> 
 // The search over as few rows as there are sizes for.
 fn search_fitted(delta: Automaton, rules: &Rules, budget: u32) -> Closure
     requires { Searchable delta.arities.now rules.now }
-    ensures { Tells (searched delta.entry rules.now budget) result }
+    ensures { said_closure result ≡ searched delta.entry rules.now budget }
 {
     let k = delta.states;
     if k <= FEW {
@@ -83,7 +83,8 @@ fn search_fitted(delta: Automaton, rules: &Rules, budget: u32) -> Closure
 pub fn first_critical(c: &Certificate, merged: &[u8; ROWS]) -> Closure
     requires sound { Sound c.now.tables c.now.merging }
     requires merged { Merged c.now.tables.initial.rows c.now.merging.merge (c.now.tables.initial.count * 5) merged.now }
-    ensures { Tells (closure_over (merged_of c.now.tables c.now.merging) (rules_of (arities_of c.now.tables) c.now.tables.rules) c.now.tables.budget) result }
+    ensures { said_closure result
+        ≡ closure_over (merged_of c.now.tables c.now.merging) (rules_of (arities_of c.now.tables) c.now.tables.rules) c.now.tables.budget }
 {
     let t = &c.tables;
     let woven = weave(&merged[..t.initial.count * ROW]);
@@ -109,7 +110,7 @@ pub fn sharing(c: &Certificate) -> Option<FinalPair>
 #[tactic(auto, unfolding(paper::specs::Computed::closure_in, tables::specs::Held::held))]
 pub fn closure(c: &Certificate) -> Closure
     requires { Sound c.now.tables c.now.merging }
-    ensures { Tells (closure_in (held c.now.tables c.now.merging)) result }
+    ensures { said_closure result ≡ closure_in (held c.now.tables c.now.merging) }
 {
     first_critical(c, &merged_of(c))
 }

@@ -15,19 +15,18 @@ use Rattle.paper.specs.Computed.{case, closure}
 use Rattle.paper.proofs.Examined.{Outcome}
 use Rattle.sets.specs.Sets.{mem, less}
 use Rattle.tables.specs.Held.{rules_of}
-use Rattle.verdicts.specs.declared.CriticalPair.{CriticalPair}
+use Rattle.verdicts.specs.declared.critical_pair.CriticalPair.{CriticalPair}
 use Rattle.verdicts.specs.declared.Closure.{Closure as Verdict}
 use Rattle.verdicts.specs.declared.Closure.TheVariants.{Critical, Closed, Stopped}
-use Rattle.verdicts.specs.Said.{classes_of, said_closure, Ended, EndedIn, Tells}
+use Rattle.verdicts.specs.Said.{classes_of, said_closure}
 use Rattle.tables.specs.declared.Rules.{Rules}
 use Rattle.values.specs.Lanes.{lane, sheet_of}
 use Rattle.values.specs.Standing.{Each, Spelled}
 use Rattle.alike.specs.Needed.{Led}
-use Rattle.lanes.specs.Prefixes.{rest, choices, chosen, pair_of}
+use Rattle.lanes.specs.Prefixes.{rest, choices, chosen}
 use Rattle.lanes.specs.Batches.{Batch, Prefix, Judgeable}
 use Rattle.lanes.specs.Automaton.{woven_automaton}
 use Rattle.search.specs.Searched.{Told, Opened}
-use Rattle.lanes.proofs.Shown.{pair_classes, pair_ended}
 use Rattle.lanes.proofs.Numbers.{lane_low, rest_all, choices_low}
 use Rattle.search.proofs.Order.{rule_in, total_next}
 use Rattle.search.proofs.Walk.{all, case_at, Calm, Clear, clear_run, clear_more, Run, Level, level_run, level_end, level_next, level_start}
@@ -62,23 +61,23 @@ right_fits b k n e h most = omega (arith, mul-le-mul_right k (below n (omega ari
 -- What the search tells once it ends.
 module _ {arities words heads : List ℕ} {rules : Rules} {k : ℕ} (ok : Searching arities words heads rules k) (budget : ℕ) where
   abbrev pub Answer : Verdict → Type 0
-  Answer = Tells (closure (woven_automaton arities words heads k) (rules_of arities rules) budget)
+  Answer r = said_closure r ≡ closure (woven_automaton arities words heads k) (rules_of arities rules) budget
 
   outcome : (o : Closure) → Outcome (woven_automaton arities words heads k) (all (woven_automaton arities words heads k) (rules_of arities rules)) budget 0 o
       → o ≡ closure (woven_automaton arities words heads k) (rules_of arities rules) budget
   outcome = judged (woven_automaton arities words heads k) (rules_of arities rules) (in_range ok.ready) ok.right.shaped budget
 
   stopped : Outcome (woven_automaton arities words heads k) (all (woven_automaton arities words heads k) (rules_of arities rules)) budget 0 (Closure.stopped budget) → Answer (Stopped budget)
-  unfolding said_closure EndedIn
-  stopped o = record { says = outcome _ o; ended = tt }
+  unfolding said_closure
+  stopped o = outcome _ o
 
   -- All rules are examined.
   pub all_examined : {r n : ℕ} → r ≡ rules.count → n ≡ total k (take r (rules_of arities rules)) → n ≤ budget
       → Clear (woven_automaton arities words heads k) (rules_of arities rules) n → Answer (Closed n)
-  unfolding woven_automaton said_closure EndedIn
+  unfolding woven_automaton said_closure
   all_examined {r} {n} e is-n within clear =
       let last = is-n ∙ ap (total k) (take_all r (rules_of arities rules) (omega (arith, rule_count arities rules))) in
-      record { says = outcome _ (out_closed (woven_automaton arities words heads k) (rules_of arities rules) budget n last within clear); ended = tt }
+      outcome _ (out_closed (woven_automaton arities words heads k) (rules_of arities rules) budget n last within clear)
 
 -- At a rule, with its numbers.
 module _ {arities words heads : List ℕ} {rules : Rules} {k budget most size r : ℕ} {tokens : List ℕ} {v lanes passed1 passed0 m0 m1 m2 variables right leads1 : ℕ}
@@ -199,22 +198,15 @@ module _ {arities words heads : List ℕ} {rules : Rules} {k budget most size r 
         let spent : n ≡ budget = e ∙ t.is_most in
         stopped t.ok budget (out_stopped A Rs budget (omega (arith, listed_still)) (subst (Clear A Rs) spent l.clear))
 
-    pub lane_found : {q : ℕ} {hit : Bool} {p : CriticalPair} → (n ≡ most → ⊥) → hit ≡ less (lane k m 0 j) (lane k m right j) q → hit ≡ true
-        → ((x : ℕ) → x < q → less (lane k m 0 j) (lane k m right j) x ≡ false) → p ≡ pair_of r v x0 x1 x2 j q → Answer t.ok budget (Critical p (n + 1))
-    unfolding said_closure EndedIn pair_of
-    lane_found {q} left is hit none shown =
-        let low0 : x0 < 64 = omega (arith, l.low0, t.ok.ready.most) in
-        let low1 : x1 < 64 = omega (arith, l.low1, t.ok.ready.most) in
-        let low2 : x2 < 64 = omega (arith, l.low2, t.ok.ready.most) in
+    pub lane_found : {q : ℕ} {hit : Bool} (p : CriticalPair) → (n ≡ most → ⊥) → hit ≡ less (lane k m 0 j) (lane k m right j) q → hit ≡ true
+        → ((x : ℕ) → x < q → less (lane k m 0 j) (lane k m right j) x ≡ false) → (p.rule ≡ r) × (classes_of p ≡ chosen v x0 x1 x2 j) × (p.class ≡ q)
+        → Answer t.ok budget (Critical p (n + 1))
+    unfolding said_closure
+    lane_found {q} p left is hit none (is-rule, are, is-class) =
         let smallest = smallest_class A Rs (in_range t.ok.ready) t.ok.right.shaped r rule (chosen v x0 x1 x2 j) q (sym (l.each j in_batch q) ∙ sym is ∙ hit)
         (λ x h. sym (l.each j in_batch x) ∙ none x h) in
         let found = out_critical A Rs budget n r rule (chosen v x0 x1 x2 j) q listed_still (omega (arith, l.within, t.is_most)) l.clear here smallest in
-        record {
-          says = ap (λ (p : CriticalPair). Closure.critical p.rule (classes_of p) p.class (n + 1)) shown
-              ∙ ap (λ (xs : List ℕ). Closure.critical r xs q (n + 1)) (pair_classes r x0 x1 x2 j q low0 low1 low2 lane_bit v)
-              ∙ outcome t.ok budget _ found;
-          ended = subst Ended (sym shown) (pair_ended r x0 x1 x2 j q low0 low1 low2 lane_bit v);
-        }
+        rw (are, is-rule, is-class) (outcome t.ok budget _ found)
 
   -- A batch of substitutions that differ in the last variable alone.
   module _ {x0 x1 x2 start n : ℕ} (l : Level A Rs v 2 r rule (x0 ∷ (x1 ∷ [])) budget start x2 n) (tried : x2 < m2) where

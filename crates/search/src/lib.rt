@@ -2,9 +2,9 @@
 // there is a critical pair; the rest is counted whole.
 #![tactic(auto)]
 
-ghost use Rattle.std.specs.Prelude.{◌*◌, ◌≤◌, length};
+ghost use Rattle.std.specs.Prelude.{◌≡◌, ◌*◌, ◌≤◌, length};
 ghost use Rattle.theory.specs.Rewriting.{Rule};
-ghost use Rattle.verdicts.specs.Said.{Tells};
+ghost use Rattle.verdicts.specs.Said.{said_closure};
 ghost use Rattle.lanes.specs.Automaton.{meant};
 ghost use Rattle.lanes.specs.Batches.{Judgeable, Prefix, Long};
 ghost use Rattle.alike.specs.Needed.{RuleGiven, Led};
@@ -65,7 +65,7 @@ pub fn search<'a>(
     m: &mut [[u64; WORDS]],
 ) -> Closure
     requires { Searchable delta.arities.now rules.now × (52 * delta.states ≤ length m.old) }
-    ensures { Tells (searched delta.entry rules.now budget) result }
+    ensures { said_closure result ≡ searched delta.entry rules.now budget }
 {
     let k = delta.states;
     let most = budget as u64;

@@ -1,7 +1,7 @@
 // The value of a term in all lanes at once. It is a sheet of rows, one to a class: see specs/Lanes.
 #![tactic(auto)]
 
-ghost use Rattle.std.specs.Prelude.{◌≡◌, false, ◌||◌, ◌&&◌, List, ℕ, ◌+◌, ◌≤◌, ◌<◌, length, get_or};
+ghost use Rattle.std.specs.Prelude.{◌≡◌, true, false, ◌||◌, ◌&&◌, List, ℕ, ◌+◌, ◌≤◌, ◌<◌, length, get_or};
 ghost use Rattle.paper.specs.Limits.{most_arity};
 ghost use Rattle.woven.specs.Woven.{part};
 ghost use Rattle.woven.specs.Meant.{moves};
@@ -141,7 +141,8 @@ fn keep(ends: &mut [u8; RULE], at: usize, a: usize, b: usize, c: usize, next: us
 
 // Whether a token is that of the variable that gets another class next.
 fn is_near(near: Option<u8>, token: u8) -> bool
-    ensures { result ≡ false → near ≡ Some token → ⊥ }
+    ensures own { result ≡ true → near ≡ Some token }
+    ensures other { result ≡ false → near ≡ Some token → ⊥ }
 {
     match near {
         Some(own) => own == token,

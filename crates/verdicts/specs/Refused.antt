@@ -24,7 +24,7 @@ number LeftVariables = 9
 number UnknownVariable = 10
 number Misnumbered = 11
 
--- The reason of this number.
+-- The reason of this number, from 1 to 11; 0 is no reason's number.
 abbrev pub reasons : List Reason
 reasons =
     TooLong ∷ (ShortBuffer ∷ (TooLong ∷ (NoLine ∷ (NoValue ∷ (OutOfRange ∷ (WrongCount ∷ (Unordered ∷ (NoTerm ∷ (LeftVariables ∷ (UnknownVariable ∷ (Misnumbered ∷ [])))))))))))

@@ -1,6 +1,7 @@
 -- `judge::first_critical` meets its contract: the woven rows are the merged automaton's transitions.
+use mathlib.Core.Path.{◌∙◌}
 use Rattle.tables.specs.Held.{arities_of}
-use Rattle.judge.proofs.Whole.{weavable, woven_ready, searchable, closure_told}
+use Rattle.judge.proofs.Whole.{weavable, woven_ready, searchable, closure_is}
 use Rattle.judge.proofs.first_critical.Goals as goal
 
 pub weave-woven-requires : goal.weave-woven-requires
@@ -17,4 +18,4 @@ search_fitted-requires c = searchable _ _ c.requires.sound
 
 pub returns : goal.returns
 unfolding arities_of
-returns c = closure_told _ _ c.requires.sound _ c.requires.merged _ _ c.weave-woven.ensures.0 c.weave-woven.ensures.1 _ c.search_fitted.ensures
+returns c = c.search_fitted.ensures ∙ closure_is _ _ c.requires.sound _ c.requires.merged _ _ c.weave-woven.ensures.0 c.weave-woven.ensures.1 _

@@ -1,7 +1,6 @@
 -- `reply::reply_closure` meets its contract: the text of the answer is placed.
 use mathlib.Core.Path.{ap}
 use Rattle.paper.specs.Answer.{closure_answer}
-use Rattle.checker.proofs.Laws.{tells_says}
 use Rattle.reply.proofs.Placing.{placed_short, placed_written}
 use Rattle.reply.proofs.reply_closure.Goals as goal
 
@@ -10,4 +9,4 @@ returns-then-out-lt128 c = placed_short _ _ c.if-out-lt128.true
 
 pub returns : goal.returns
 returns c =
-    placed_written _ _ _ _ _ (ap closure_answer (tells_says _ c.closure.result c.closure.ensures)) c.if-out-lt128.false c.write_closure.ensures
+    placed_written _ _ _ _ _ (ap closure_answer c.closure.ensures) c.if-out-lt128.false c.write_closure.ensures

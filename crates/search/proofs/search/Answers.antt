@@ -272,7 +272,7 @@ returns-then-critical c =
     let going = c.lanes-test.true in
     let left = c.if-examined-most.false in
     let none = c.classes.invariant in
-    lane_found at.invariant.ruled at.invariant.lane going left c.critical.ensures c.if-critical.true none c.pair-found.ensures
+    lane_found at.invariant.ruled at.invariant.lane going _ left c.critical.ensures c.if-critical.true none c.pair-found.ensures
 
 pub returns-then-most-examined : goal.returns-then-most-examined
 returns-then-most-examined c =

@@ -103,7 +103,7 @@ returns-then-not-is_near-clause-valued t c = variable_valued c.requires.stands c
 pub returns-then-not-is_near-clause-kept : goal.returns-then-not-is_near-clause-kept
 returns-then-not-is_near-clause-kept t c =
     let v = variable_valued c.requires.stands c.if-f-ge-VARIABLE.true in
-    kept_more c.requires.stands v (lacks_variable c.requires.stands c.if-f-ge-VARIABLE.true (c.is_near.ensures c.if-not-is_near.true)) c.requires.kept
+    kept_more c.requires.stands v (lacks_variable c.requires.stands c.if-f-ge-VARIABLE.true (c.is_near.ensures.other c.if-not-is_near.true)) c.requires.kept
 
 pub returns-else-not-is_near-clause-valued : goal.returns-else-not-is_near-clause-valued
 returns-else-not-is_near-clause-valued t c = variable_valued c.requires.stands c.if-f-ge-VARIABLE.true

@@ -12,10 +12,10 @@ unfolding seven seven_with line_with bytes rows
 loop-key-init c = begun (simp append-nil c.requires)
 
 pub put_line-end-requires : goal.put_line-end-requires
-put_line-end-requires c = room c.loop-key.invariant _ (a_row _ _ _ c.loop-key-test.true)
+put_line-end-requires c = room c.loop-key.invariant _ (a_row _ _ _ _ c.loop-key-test.true)
 
 pub loop-key-preserved : goal.loop-key-preserved
-loop-key-preserved c = go_on c.loop-key.invariant _ (a_row _ _ _ c.loop-key-test.true) c.put_line-end.ensures
+loop-key-preserved c = go_on c.loop-key.invariant _ (a_row _ _ _ _ c.loop-key-test.true) c.put_line-end.ensures
 
 pub returns : goal.returns
 unfolding seven seven_with line_with bytes rows

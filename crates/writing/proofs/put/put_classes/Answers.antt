@@ -4,7 +4,7 @@ use Prim.Native.Nat.{ℕ}
 use lib.ListN.{drop_of_length-le}
 use native.Mathlib.Omega.{arith}
 use Rattle.verdicts.specs.Said.{classes_of}
-use Rattle.verdicts.specs.declared.CriticalPair.{CriticalPair}
+use Rattle.verdicts.specs.declared.critical_pair.CriticalPair.{CriticalPair}
 use Rattle.writing.proofs.Laws.{begun, ended, room, go_on, commaed, no_first, a_first, no_next, a_next}
 use Rattle.writing.proofs.put.put_classes.Goals as goal
 
