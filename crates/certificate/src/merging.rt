@@ -1,4 +1,4 @@
-// The line `merge`, read against tables that are there.
+// The line `merge`, for as many states as the tables have.
 ghost use Rattle.std.specs.Prelude.{◌≡◌, ◌≤◌, drop};
 ghost use Rattle.theory.specs.Automaton.{classes as class_count};
 ghost use Rattle.paper.specs.Limits.{most_states};

@@ -97,7 +97,7 @@ pub fn first_critical(c: &Certificate, merged: &[u8; ROWS]) -> Closure
     search_fitted(delta, &t.rules, t.budget)
 }
 
-// The first question, of the tables and the merging: the first final pair that shares a tree.
+// The first question, of a certificate: the first final pair that shares a tree.
 #[tactic(auto, unfolding(paper::specs::Computed::sharing_in, tables::specs::Held::held))]
 pub fn sharing(c: &Certificate) -> Option<FinalPair>
     requires { Sound c.now.tables c.now.merging }
