@@ -34,8 +34,8 @@ fn rule(c: Cursor, file: &[u8], signature: Signature) -> Result<(Rule, Cursor), 
     requires placed { Placed file.now c }
     ensures { Handed file.now rule_of (paper_rule signature.entry.arities.now c.line (drop c.at file.now)) result }
 {
-    let (left, second) = left_line(c, file, signature)?;
-    let (right, next) = right_line(second, file, signature, left.variables)?;
+    let (left, second) = left_line(c, file, signature.arities)?;
+    let (right, next) = right_line(second, file, signature.arities, left.variables)?;
     let mut tokens = [0u8; RULE];
     put_side(&mut tokens[..SIDE], &left);
     put_side(&mut tokens[SIDE..], &right);

@@ -30,6 +30,7 @@ use Rattle.paper.proofs.Demands.{given_exactly, accepted_exactly, malformed_exac
 use Rattle.paper.proofs.Questions.{sharing_exactly, closure_exactly, sharing_refused, closure_refused, closure_answers, closed_closes, put_together}
 use Rattle.paper.proofs.Contract.{short_untouched, answer_stands, rest_stays, number_and_length}
 use Rattle.paper.proofs.Distinct.{answer_tells}
+use Rattle.std.specs.Prelude.{IfOk}
 use Rattle.std.specs.declared.option.Option.{Option as RustOption}
 use Rattle.std.specs.declared.option.Option.TheVariants.{None, Some}
 use Rattle.std.specs.declared.result.Result.{Result}
@@ -41,7 +42,7 @@ use Rattle.verdicts.specs.declared.FinalPair.{FinalPair}
 use Rattle.verdicts.specs.declared.Closure.{Closure}
 use Rattle.verdicts.specs.declared.Closure.TheVariants.{Closed}
 use Rattle.verdicts.specs.Refused.{number, reason_of, numbered, asked}
-use Rattle.verdicts.specs.Said.{said_sharing, said_closure}
+use Rattle.verdicts.specs.Said.{said_sharing, said_closure, EndedIn}
 use Rattle.verdicts.proofs.Told.{reason_back, one_sharing_of_file, one_closure_of_file}
 use Rattle.checker.specs.declared.Answered.{Answered}
 use Rattle.checker.specs.Gave.{gave, Answers, Begins}
@@ -196,8 +197,9 @@ module _ (file : List ℕ) (r : Result (RustOption FinalPair) Refusal) (given : 
   sharing_refusal_told number line = let (to, from) = sharing_refused file number line in (λ h. to (sym given ∙ h), λ e. given ∙ from e)
 
 -- The second. Two results that its contract allows are the same ..
-pub one_closure_answer : (file : List ℕ) (r s : Result Closure Refusal) → asked said_closure r ≡ closure_of file → asked said_closure s ≡ closure_of file → r ≡ s
-one_closure_answer file r s d e = one_closure_of_file r s (d ∙ sym e)
+pub one_closure_answer : (file : List ℕ) (r s : Result Closure Refusal) → asked said_closure r ≡ closure_of file → IfOk r EndedIn
+    → asked said_closure s ≡ closure_of file → IfOk s EndedIn → r ≡ s
+one_closure_answer file r s d ended e ended_too = one_closure_of_file r s ended ended_too (d ∙ sym e)
 
 module _ (file : List ℕ) (r : Result Closure Refusal) (given : asked said_closure r ≡ closure_of file) where
   -- .. it says what there is of critical pairs within the budget, both ways ..

@@ -15,16 +15,16 @@ use Rattle.paper.proofs.Exact.{closure_given}
 use Rattle.paper.proofs.Bounds.{ClosureRanged, closure_ranged}
 use Rattle.paper.proofs.Questions.{sharing_answers, closure_answers}
 use Rattle.verdicts.specs.declared.critical_pair.CriticalPair.{CriticalPair}
-use Rattle.verdicts.specs.Said.{class_then, classes_of}
+use Rattle.verdicts.specs.Said.{class_then, classes_of, Ended}
 use Rattle.verdicts.proofs.Told.{shown_class, classes_are}
 use Rattle.checker.specs.Numbers.{sharing_kind, sharing_numbers, closure_kind, closure_numbers}
 
 -- A critical pair: its class numbers are the classes of its variables, and 255 behind them.
-pub critical_numbers : (p : CriticalPair) (n : ℕ)
+pub critical_numbers : (p : CriticalPair) (n : ℕ) → Ended p
     → 0 ∷ 0 ∷ p.rule ∷ p.x0 ∷ p.x1 ∷ p.x2 ∷ p.x3 ∷ p.class ∷ n ∷ [] ≡ closure_numbers (Asked.answered (Paper.Closure.critical p.rule (classes_of p) p.class n))
 unfolding closure_numbers
-critical_numbers p n =
-    let is = classes_are p in
+critical_numbers p n h =
+    let is = classes_are p h in
     λ i. 0 ∷ 0 ∷ p.rule ∷ sym is.x0_is i ∷ sym is.x1_is i ∷ sym is.x2_is i ∷ sym is.x3_is i ∷ p.class ∷ n ∷ []
 
 -- What C reads from the numbers.

@@ -1,10 +1,10 @@
 // The operations as `checker_c` hands them to C: numbers in, numbers out.
-ghost use Rattle.std.specs.Prelude.{◌≡◌};
+ghost use Rattle.std.specs.Prelude.{◌≡◌, IfOk};
 ghost use Rattle.paper.specs.Contract.{returned};
 ghost use Rattle.paper.specs.Format.{line_number};
 ghost use Rattle.paper.specs.Computed.{sharing_of, closure_of};
 ghost use Rattle.verdicts.specs.Refused.{numbered, said_line, asked};
-ghost use Rattle.verdicts.specs.Said.{said_sharing, said_closure};
+ghost use Rattle.verdicts.specs.Said.{said_sharing, said_closure, EndedIn};
 ghost use Rattle.checker.specs.Gave.{packed};
 ghost use Rattle.checker.specs.Numbers.{sharing_kind, sharing_numbers, closure_kind, closure_numbers};
 
@@ -93,6 +93,7 @@ pub fn mergecheck_sharing(file: &[u8], answer: &mut [u32; 4]) -> u32
 
 // An answer to the second question as numbers.
 fn closure_numbers(k: Result<Closure, Refusal>) -> Numbers<9>
+    requires { IfOk k EndedIn }
     ensures { (result.kind ≡ closure_kind (asked said_closure k)) × (result.words ≡ closure_numbers (asked said_closure k)) }
 {
     match k {

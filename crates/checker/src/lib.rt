@@ -23,6 +23,7 @@ pub struct Answered {
 }
 
 // The verdict on a file, or the refusal with its line.
+#[tactic(auto, using(crate::proofs::FromReading::judged), unfolding(verdicts::specs::Said::said_of_file))]
 fn judge_file(file: &[u8]) -> Result<Verdict, Refusal>
     ensures { said_of_file result ≡ verdict_of file.now }
 {

@@ -156,7 +156,7 @@ impl Cursor {
     }
 
     // The place of the line's value, where the line begins with its key.
-    #[tactic(auto, using(crate::proofs::LineLaws::key_in, crate::proofs::LineLaws::key_past))]
+    #[tactic(auto, using(crate::proofs::LineLaws::key_in, crate::proofs::LineLaws::key_past, std::proofs::lemmas::List::take_all))]
     pub fn open(self, file: &[u8], kind: Kind) -> Option<usize>
         ensures { result ≡ after_key (key_at kind) self.at (drop self.at file.now) }
     {

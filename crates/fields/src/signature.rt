@@ -1,4 +1,4 @@
-// The signature that the line `arities` gives: what each line of transitions and terms is read over.
+// The signature that the line `arities` gives: what each line of transitions is read over.
 ghost use Rattle.std.specs.Prelude.{ℕ, ◌≤◌, length, get_or};
 ghost use Rattle.paper.specs.Limits.{most_arity, most_symbols};
 

@@ -9,7 +9,7 @@ ghost use Rattle.std.specs.Prelude.{◌≡◌, ◌*◌, ◌≤◌};
 ghost use Rattle.paper.specs.Computed.{closure as closure_over, sharing_in, closure_in, verdict};
 ghost use Rattle.tables.specs.Held.{held, arities_of, rules_of};
 ghost use Rattle.tables.specs.Sound.{Sound};
-ghost use Rattle.verdicts.specs.Said.{said, said_sharing, said_closure};
+ghost use Rattle.verdicts.specs.Said.{said, said_sharing, said_closure, EndedIn, EndedVerdict};
 ghost use Rattle.judge.specs.Merged.{Merged};
 ghost use Rattle.search.specs.Searched.{Searchable, searched};
 ghost use Rattle.judge.specs.Judged.{merged_of};
@@ -55,7 +55,8 @@ fn merged_of(c: &Certificate) -> [u8; ROWS]
 fn search_over<const N: usize>(delta: Automaton, rules: &Rules, budget: u32) -> Closure
     requires searchable { Searchable delta.arities.now rules.now }
     requires room { (52 * delta.states ≤ N) × (N ≤ 52 * 64) }
-    ensures { said_closure result ≡ searched delta.entry rules.now budget }
+    ensures said { said_closure result ≡ searched delta.entry rules.now budget }
+    ensures ended { EndedIn result }
 {
     let mut rows = [[0u64; WORDS]; N];
     search(delta, rules, budget, &mut rows)
@@ -64,7 +65,8 @@ fn search_over<const N: usize>(delta: Automaton, rules: &Rules, budget: u32) -> 
 // The search over as few rows as there are sizes for.
 fn search_fitted(delta: Automaton, rules: &Rules, budget: u32) -> Closure
     requires { Searchable delta.arities.now rules.now }
-    ensures { said_closure result ≡ searched delta.entry rules.now budget }
+    ensures said { said_closure result ≡ searched delta.entry rules.now budget }
+    ensures ended { EndedIn result }
 {
     let k = delta.states;
     if k <= FEW {
@@ -83,8 +85,9 @@ fn search_fitted(delta: Automaton, rules: &Rules, budget: u32) -> Closure
 pub fn first_critical(c: &Certificate, merged: &[u8; ROWS]) -> Closure
     requires sound { Sound c.now.tables c.now.merging }
     requires merged { Merged c.now.tables.initial.rows c.now.merging.merge (c.now.tables.initial.count * 5) merged.now }
-    ensures { said_closure result
+    ensures said { said_closure result
         ≡ closure_over (merged_of c.now.tables c.now.merging) (rules_of (arities_of c.now.tables) c.now.tables.rules) c.now.tables.budget }
+    ensures ended { EndedIn result }
 {
     let t = &c.tables;
     let woven = weave(&merged[..t.initial.count * ROW]);
@@ -110,15 +113,18 @@ pub fn sharing(c: &Certificate) -> Option<FinalPair>
 #[tactic(auto, unfolding(paper::specs::Computed::closure_in, tables::specs::Held::held))]
 pub fn closure(c: &Certificate) -> Closure
     requires { Sound c.now.tables c.now.merging }
-    ensures { said_closure result ≡ closure_in (held c.now.tables c.now.merging) }
+    ensures said { said_closure result ≡ closure_in (held c.now.tables c.now.merging) }
+    ensures ended { EndedIn result }
 {
     first_critical(c, &merged_of(c))
 }
 
 // The verdict, put together from the two: the second is asked only where the first finds nothing, and the table is merged once.
+#[tactic(auto, unfolding(verdicts::specs::Said::EndedVerdict))]
 pub fn judge(c: &Certificate) -> Verdict
     requires { Sound c.now.tables c.now.merging }
-    ensures { said result ≡ verdict (held c.now.tables c.now.merging) }
+    ensures said { said result ≡ verdict (held c.now.tables c.now.merging) }
+    ensures ended { EndedVerdict result }
 {
     let merged = merged_of(c);
     match shared_pair(c, &merged) {

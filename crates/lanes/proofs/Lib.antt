@@ -7,6 +7,7 @@ pub mod Dead
 pub mod Judging
 pub mod Numbers
 pub mod Opened
+pub mod Shown
 pub mod SideRows
 pub mod Stays
 pub mod Trying

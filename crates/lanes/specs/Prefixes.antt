@@ -1,5 +1,6 @@
 -- The classes that a prefix of a rule's variables has, and what is left to choose.
-use Rattle.std.specs.Prelude.{cond, List, [], ◌∷◌, ℕ, zero, suc, ◌+◌, ◌-◌, ◌≤◌, ◌<◌, max, min, ltb, eqb}
+use Rattle.std.specs.Prelude.{cond, List, [], ◌∷◌, ℕ, zero, suc, ◌+◌, ◌-◌, ◌≤◌, ◌<◌, max, min, ltb, eqb, get_or}
+use Rattle.verdicts.specs.declared.critical_pair.CriticalPair.{CriticalPair}
 
 -- How many of v variables are left where the first i have their classes: the last one is always left, since all its classes are judged at once.
 unfoldable pub rest : ℕ → ℕ → ℕ
@@ -30,3 +31,15 @@ pub record Writable (rule v x0 x1 x2 j q : ℕ) : Type 0 where
   pub low2 : x2 < 64
   pub low_last : j < 64
   pub low_class : q < 64
+
+-- The critical pair of that substitution: 255 stands for each variable that the rule does not have.
+unfoldable pub pair_of : (rule v x0 x1 x2 j q : ℕ) → CriticalPair
+pair_of rule v x0 x1 x2 j q =
+    record {
+      rule = rule;
+      x0 = get_or (chosen v x0 x1 x2 j) 0 255;
+      x1 = get_or (chosen v x0 x1 x2 j) 1 255;
+      x2 = get_or (chosen v x0 x1 x2 j) 2 255;
+      x3 = get_or (chosen v x0 x1 x2 j) 3 255;
+      class = q;
+    }

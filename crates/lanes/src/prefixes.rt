@@ -1,7 +1,7 @@
 // The classes that a prefix of a rule's variables has, and what is left to choose.
 ghost use Rattle.std.specs.Prelude.{◌≡◌, ◌^◌, ◌≤◌, ◌<◌};
 ghost use Rattle.verdicts.specs.Said.{classes_of};
-ghost use Rattle.lanes.specs.Prefixes.{rest, choices, chosen, shown, Writable};
+ghost use Rattle.lanes.specs.Prefixes.{rest, choices, chosen, shown, Writable, pair_of};
 
 use verdicts::{CriticalPair, NO_CLASS};
 
@@ -47,7 +47,8 @@ fn shown(v: u8, i: u8, own: u64, lane: u64) -> u8
 // The critical pair of a rule, with the classes of its v variables.
 pub fn pair(rule: usize, v: u8, x0: u64, x1: u64, x2: u64, j: u64, q: u64) -> CriticalPair
     requires { Writable rule v x0 x1 x2 j q }
-    ensures { (result.rule ≡ rule) × (classes_of result ≡ chosen v x0 x1 x2 j) × (result.class ≡ q) }
+    ensures is { result ≡ pair_of rule v x0 x1 x2 j q }
+    ensures said { (result.rule ≡ rule) × (classes_of result ≡ chosen v x0 x1 x2 j) × (result.class ≡ q) }
 {
     CriticalPair {
         rule: rule as u8,

@@ -18,15 +18,16 @@ use Rattle.tables.specs.Held.{rules_of}
 use Rattle.verdicts.specs.declared.critical_pair.CriticalPair.{CriticalPair}
 use Rattle.verdicts.specs.declared.Closure.{Closure as Verdict}
 use Rattle.verdicts.specs.declared.Closure.TheVariants.{Critical, Closed, Stopped}
-use Rattle.verdicts.specs.Said.{classes_of, said_closure}
+use Rattle.verdicts.specs.Said.{classes_of, said_closure, Ended}
 use Rattle.tables.specs.declared.Rules.{Rules}
 use Rattle.values.specs.Lanes.{lane, sheet_of}
 use Rattle.values.specs.Standing.{Each, Spelled}
 use Rattle.alike.specs.Needed.{Led}
-use Rattle.lanes.specs.Prefixes.{rest, choices, chosen}
+use Rattle.lanes.specs.Prefixes.{rest, choices, chosen, pair_of}
 use Rattle.lanes.specs.Batches.{Batch, Prefix, Judgeable}
 use Rattle.lanes.specs.Automaton.{woven_automaton}
 use Rattle.search.specs.Searched.{Told, Opened}
+use Rattle.lanes.proofs.Shown.{pair_ended}
 use Rattle.lanes.proofs.Numbers.{lane_low, rest_all, choices_low}
 use Rattle.search.proofs.Order.{rule_in, total_next}
 use Rattle.search.proofs.Walk.{all, case_at, Calm, Clear, clear_run, clear_more, Run, Level, level_run, level_end, level_next, level_start}
@@ -207,6 +208,12 @@ module _ {arities words heads : List ℕ} {rules : Rules} {k budget most size r 
         (λ x h. sym (l.each j in_batch x) ∙ none x h) in
         let found = out_critical A Rs budget n r rule (chosen v x0 x1 x2 j) q listed_still (omega (arith, l.within, t.is_most)) l.clear here smallest in
         rw (are, is-rule, is-class) (outcome t.ok budget _ found)
+
+    -- The pair that is shown ends with the classes that the rule does not have.
+    pub lane_ended : {p : CriticalPair} (q : ℕ) → p ≡ pair_of r v x0 x1 x2 j q → Ended p
+    lane_ended q shown =
+        let most = t.ok.ready.most in
+        subst Ended (sym shown) (pair_ended r x0 x1 x2 j q (omega (arith, l.low0, most)) (omega (arith, l.low1, most)) (omega (arith, l.low2, most)) lane_bit v)
 
   -- A batch of substitutions that differ in the last variable alone.
   module _ {x0 x1 x2 start n : ℕ} (l : Level A Rs v 2 r rule (x0 ∷ (x1 ∷ [])) budget start x2 n) (tried : x2 < m2) where

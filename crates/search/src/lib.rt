@@ -4,7 +4,7 @@
 
 ghost use Rattle.std.specs.Prelude.{◌≡◌, ◌*◌, ◌≤◌, length};
 ghost use Rattle.theory.specs.Rewriting.{Rule};
-ghost use Rattle.verdicts.specs.Said.{said_closure};
+ghost use Rattle.verdicts.specs.Said.{said_closure, EndedIn};
 ghost use Rattle.lanes.specs.Automaton.{meant};
 ghost use Rattle.lanes.specs.Batches.{Judgeable, Prefix, Long};
 ghost use Rattle.alike.specs.Needed.{RuleGiven, Led};
@@ -57,7 +57,7 @@ fn opened<'a>(
 }
 
 // The first critical pair among the first `budget` substitutions; closed where there is none at all. The rows are lent for the values.
-#[tactic(auto, unfolding(tables::specs::Held::no_rule))]
+#[tactic(auto, unfolding(tables::specs::Held::no_rule, verdicts::specs::Said::EndedIn))]
 pub fn search<'a>(
     delta: Automaton<'a>,
     rules: &'a Rules,
@@ -65,7 +65,8 @@ pub fn search<'a>(
     m: &mut [[u64; WORDS]],
 ) -> Closure
     requires { Searchable delta.arities.now rules.now × (52 * delta.states ≤ length m.old) }
-    ensures { said_closure result ≡ searched delta.entry rules.now budget }
+    ensures said { said_closure result ≡ searched delta.entry rules.now budget }
+    ensures ended { EndedIn result }
 {
     let k = delta.states;
     let most = budget as u64;

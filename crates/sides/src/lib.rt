@@ -3,13 +3,13 @@
 
 ghost use Rattle.std.specs.Prelude.{◌≡◌, ◌≤◌, ◌<◌, length};
 ghost use Rattle.std.specs.List.{list_all};
+ghost use Rattle.paper.specs.Limits.{most_symbols};
 ghost use Rattle.fields.specs.Said.{Placed, said_items};
 ghost use Rattle.sides.specs.Tokens.{closes, open_terms, is_one, step_lined, lined, known, TokenKind, TermLine, LeftLine, RightLine};
 
 use fields::cursor::Cursor;
 use fields::lists::{Items, ROOM};
 use fields::rows::Kind;
-use fields::signature::Signature;
 use tables::{VARIABLE, arity};
 use verdicts::{Reason, Refusal};
 
@@ -100,18 +100,13 @@ fn tokens_of(it: &Items) -> &[u8]
     &it.items[..it.count]
 }
 
-// A line of one term over the symbols of this signature.
-fn term_line(
-    c: Cursor,
-    file: &[u8],
-    kind: Kind,
-    signature: Signature,
-) -> Result<(Items, Cursor), Refusal>
+// A line of one term over the symbols that have these arities.
+fn term_line(c: Cursor, file: &[u8], kind: Kind, arities: &[u8]) -> Result<(Items, Cursor), Refusal>
     requires kind_bound { TokenKind kind }
+    requires few { length arities.now ≤ most_symbols }
     requires placed { Placed file.now c }
-    ensures { TermLine file.now signature.entry.arities.now kind c result }
+    ensures { TermLine file.now arities.now kind c result }
 {
-    let arities = signature.arities;
     let (it, next) = c.term_line(file, kind, arities.len() as u32)?;
     if !is_one_term(tokens_of(&it), arities) {
         return Err(c.refuse(Reason::NoTerm));
@@ -119,13 +114,14 @@ fn term_line(
     Ok((it, next))
 }
 
-// A left side.
+// A left side. Any arities will do, and none: no `Signature` is asked, which has one symbol at least and no arity above 3.
 #[tactic(auto, using(crate::proofs::Further::whole_it))]
-pub fn left_line(c: Cursor, file: &[u8], signature: Signature) -> Result<(Side, Cursor), Refusal>
+pub fn left_line(c: Cursor, file: &[u8], arities: &[u8]) -> Result<(Side, Cursor), Refusal>
+    requires few { length arities.now ≤ most_symbols }
     requires placed { Placed file.now c }
-    ensures { LeftLine file.now signature.entry.arities.now c result }
+    ensures { LeftLine file.now arities.now c result }
 {
-    let (it, next) = term_line(c, file, Kind::Left, signature)?;
+    let (it, next) = term_line(c, file, Kind::Left, arities)?;
     if VARIABLE <= it.items[0] {
         return Err(c.refuse(Reason::LeftVariables));
     }
@@ -144,16 +140,12 @@ pub fn left_line(c: Cursor, file: &[u8], signature: Signature) -> Result<(Side, 
 
 // A right side, where the left side has v variables.
 #[tactic(auto, using(crate::proofs::Further::whole_it))]
-pub fn right_line(
-    c: Cursor,
-    file: &[u8],
-    signature: Signature,
-    v: u8,
-) -> Result<(Side, Cursor), Refusal>
+pub fn right_line(c: Cursor, file: &[u8], arities: &[u8], v: u8) -> Result<(Side, Cursor), Refusal>
+    requires few { length arities.now ≤ most_symbols }
     requires placed { Placed file.now c }
-    ensures { RightLine file.now signature.entry.arities.now c v result }
+    ensures { RightLine file.now arities.now c v result }
 {
-    let (it, next) = term_line(c, file, Kind::Right, signature)?;
+    let (it, next) = term_line(c, file, Kind::Right, arities)?;
     if !all_known(tokens_of(&it), v) {
         return Err(c.refuse(Reason::UnknownVariable));
     }

@@ -1,13 +1,12 @@
 -- An answer of the code is fixed by what it says: two that say the same are equal.
-use mathlib.Core.Path.{◌≡◌, PathP, refl, sym, ap, ◌∙◌}
-use mathlib.Core.HLevel.{is_prop→PathP}
+use mathlib.Core.Path.{◌≡◌, refl, sym, ap, ◌∙◌}
 use mathlib.Core.List.{List, [], ◌∷◌}
 use Prim.Native.Nat.{ℕ, zero, suc, ◌<◌, ◌≤◌}
 use native.Mathlib.Omega.{arith}
 use native.Mathlib.Decide.{ℕ_discrete}
 use borrow.Author.Tests.{eq-eqb, ne_eqb}
 use lib.ListN.{get_or}
-use Rattle.std.proofs.Props.{props}
+use Rattle.std.specs.Prelude.{IfOk}
 use Rattle.std.proofs.Math.Option.{Option as Maybe}
 use Rattle.std.specs.declared.option.Option.{Option}
 use Rattle.std.specs.declared.option.Option.TheVariants.{None, Some}
@@ -23,7 +22,7 @@ use Rattle.verdicts.specs.declared.Closure.{Closure}
 use Rattle.verdicts.specs.declared.Closure.TheVariants.{Critical, Closed, Stopped}
 use Rattle.verdicts.specs.declared.Verdict.{Verdict}
 use Rattle.verdicts.specs.Refused.{number, reason_of, said_line, line_of, refusal_of, asked}
-use Rattle.verdicts.specs.Said.{class_then, classes_of, said, said_sharing, said_closure}
+use Rattle.verdicts.specs.Said.{class_then, classes_of, said, said_sharing, said_closure, Ended, EndedIn, EndedVerdict}
 
 -- A class number, or 255, is what stands first of its list ..
 first_class : (x : ℕ) (xs : List ℕ) → get_or (class_then x xs) 0 255 ≡ x
@@ -47,42 +46,28 @@ pub record ClassesAre (p : CriticalPair) : Type 0 where
   pub x2_is : get_or (classes_of p) 2 255 ≡ p.x2
   pub x3_is : get_or (classes_of p) 3 255 ≡ p.x3
 
-pub classes_are : (p : CriticalPair) → ClassesAre p
+pub classes_are : (p : CriticalPair) → Ended p → ClassesAre p
 unfolding classes_of
-classes_are p = record {
+classes_are p e = record {
   x0_is = first_class p.x0 _;
-  x1_is = later_class p.x0 _ 0 p.x1 (first_class p.x1 _) p.after_x0;
-  x2_is = later_class p.x0 _ 1 p.x2 (later_class p.x1 _ 0 p.x2 (first_class p.x2 _) p.after_x1) (λ h. p.after_x1 (p.after_x0 h));
+  x1_is = later_class p.x0 _ 0 p.x1 (first_class p.x1 _) e.after_x0;
+  x2_is = later_class p.x0 _ 1 p.x2 (later_class p.x1 _ 0 p.x2 (first_class p.x2 _) e.after_x1) (λ h. e.after_x1 (e.after_x0 h));
   x3_is =
       later_class p.x0 _ 2 p.x3
-      (later_class p.x1 _ 1 p.x3 (later_class p.x2 _ 0 p.x3 (first_class p.x3 []) p.after_x2) (λ h. p.after_x2 (p.after_x1 h)))
-      (λ h. p.after_x2 (p.after_x1 (p.after_x0 h)));
+      (later_class p.x1 _ 1 p.x3 (later_class p.x2 _ 0 p.x3 (first_class p.x3 []) e.after_x2) (λ h. e.after_x2 (e.after_x1 h)))
+      (λ h. e.after_x2 (e.after_x1 (e.after_x0 h)));
 }
 
--- The fact that behind 255 stands 255 has one proof.
-after_one : (x y : 𝕀 → ℕ) (f : x 0 ≡ 255 → y 0 ≡ 255) (g : x 1 ≡ 255 → y 1 ≡ 255) → PathP (λ i. x i ≡ 255 → y i ≡ 255) f g
-after_one x y = is_prop→PathP (λ i. x i ≡ 255 → y i ≡ 255) (λ i. hlevel props)
-
--- A critical pair is fixed by its rule, its list and its class.
-pub one_pair : (p q : CriticalPair) → p.rule ≡ q.rule → classes_of p ≡ classes_of q → p.class ≡ q.class → p ≡ q
-one_pair p q rule xs class =
-    let a = classes_are p in
-    let b = classes_are q in
+-- A critical pair whose list ends it is fixed by its rule, its list and its class.
+pub one_pair : (p q : CriticalPair) → Ended p → Ended q → p.rule ≡ q.rule → classes_of p ≡ classes_of q → p.class ≡ q.class → p ≡ q
+one_pair p q ended ended_too rule xs class =
+    let a = classes_are p ended in
+    let b = classes_are q ended_too in
     let x0 : p.x0 ≡ q.x0 = sym a.x0_is ∙ (ap (λ ys. get_or ys 0 255) xs ∙ b.x0_is) in
     let x1 : p.x1 ≡ q.x1 = sym a.x1_is ∙ (ap (λ ys. get_or ys 1 255) xs ∙ b.x1_is) in
     let x2 : p.x2 ≡ q.x2 = sym a.x2_is ∙ (ap (λ ys. get_or ys 2 255) xs ∙ b.x2_is) in
     let x3 : p.x3 ≡ q.x3 = sym a.x3_is ∙ (ap (λ ys. get_or ys 3 255) xs ∙ b.x3_is) in
-    λ i. record {
-      rule = rule i;
-      x0 = x0 i;
-      x1 = x1 i;
-      x2 = x2 i;
-      x3 = x3 i;
-      class = class i;
-      after_x0 = after_one (λ j. x0 j) (λ j. x1 j) p.after_x0 q.after_x0 i;
-      after_x1 = after_one (λ j. x1 j) (λ j. x2 j) p.after_x1 q.after_x1 i;
-      after_x2 = after_one (λ j. x2 j) (λ j. x3 j) p.after_x2 q.after_x2 i;
-    }
+    λ i. record { rule = rule i; x0 = x0 i; x1 = x1 i; x2 = x2 i; x3 = x3 i; class = class i }
 
 -- A reason has its number ..
 pub reason_back : (r : Reason) → reason_of (number r) ≡ r
@@ -161,53 +146,53 @@ pub one_sharing_of_file : (a b : Result (Option FinalPair) Refusal) → asked sa
 one_sharing_of_file a b e = sym (sharing_of_file_back a) ∙ (ap sharing_of_file e ∙ sharing_of_file_back b)
 
 -- Two answers to the second question that say the same are equal.
-pub one_closure : (a b : Closure) → said_closure a ≡ said_closure b → a ≡ b
-unfolding said_closure
-one_closure (Critical p m) (Critical q n) e =
-    let pair = one_pair p q (cc) (cc) (cc) in
+pub one_closure : (a b : Closure) → EndedIn a → EndedIn b → said_closure a ≡ said_closure b → a ≡ b
+unfolding said_closure EndedIn
+one_closure (Critical p m) (Critical q n) l r e =
+    let pair = one_pair p q l r (cc) (cc) (cc) in
     let count : m ≡ n = cc in
     λ i. Critical (pair i) (count i)
-one_closure (Critical p m) (Closed n) e = cc
-one_closure (Critical p m) (Stopped n) e = cc
-one_closure (Closed m) (Critical q n) e = cc
-one_closure (Closed m) (Closed n) e = cc
-one_closure (Closed m) (Stopped n) e = cc
-one_closure (Stopped m) (Critical q n) e = cc
-one_closure (Stopped m) (Closed n) e = cc
-one_closure (Stopped m) (Stopped n) e = cc
+one_closure (Critical p m) (Closed n) l r e = cc
+one_closure (Critical p m) (Stopped n) l r e = cc
+one_closure (Closed m) (Critical q n) l r e = cc
+one_closure (Closed m) (Closed n) l r e = cc
+one_closure (Closed m) (Stopped n) l r e = cc
+one_closure (Stopped m) (Critical q n) l r e = cc
+one_closure (Stopped m) (Closed n) l r e = cc
+one_closure (Stopped m) (Stopped n) l r e = cc
 
 -- Two of a file that say the same are equal.
-pub one_closure_of_file : (a b : Result Closure Refusal) → asked said_closure a ≡ asked said_closure b → a ≡ b
+pub one_closure_of_file : (a b : Result Closure Refusal) → IfOk a EndedIn → IfOk b EndedIn → asked said_closure a ≡ asked said_closure b → a ≡ b
 unfolding asked
-one_closure_of_file (Ok a) (Ok b) e = ap Ok (one_closure a b cc)
-one_closure_of_file (Ok a) (Err s) e = cc
-one_closure_of_file (Err r) (Ok b) e = cc
-one_closure_of_file (Err r) (Err s) e =
+one_closure_of_file (Ok a) (Ok b) l m e = ap Ok (one_closure a b l m cc)
+one_closure_of_file (Ok a) (Err s) l m e = cc
+one_closure_of_file (Err r) (Ok b) l m e = cc
+one_closure_of_file (Err r) (Err s) l m e =
     let same : refusal_of (number r.reason) (said_line r.line) ≡ refusal_of (number s.reason) (said_line s.line) = cc in
     ap Err (sym (refusal_back r) ∙ (same ∙ refusal_back s))
 
 -- Two verdicts that say the same are equal.
-pub one_verdict_said : (a b : Verdict) → said a ≡ said b → a ≡ b
-unfolding said
-one_verdict_said (Verdict.Unsuitable p) (Verdict.Unsuitable q) e =
+pub one_verdict_said : (a b : Verdict) → EndedVerdict a → EndedVerdict b → said a ≡ said b → a ≡ b
+unfolding said EndedVerdict
+one_verdict_said (Verdict.Unsuitable p) (Verdict.Unsuitable q) l r e =
     let class : p.class ≡ q.class = cc in
     let bad : p.bad ≡ q.bad = cc in
     λ i. Verdict.Unsuitable (record { class = class i; bad = bad i })
-one_verdict_said (Verdict.Critical p m) (Verdict.Critical q n) e =
-    let pair = one_pair p q (cc) (cc) (cc) in
+one_verdict_said (Verdict.Critical p m) (Verdict.Critical q n) l r e =
+    let pair = one_pair p q l r (cc) (cc) (cc) in
     let count : m ≡ n = cc in
     λ i. Verdict.Critical (pair i) (count i)
-one_verdict_said (Verdict.Accepted m) (Verdict.Accepted n) e = cc
-one_verdict_said (Verdict.Stopped m) (Verdict.Stopped n) e = cc
-one_verdict_said (Verdict.Unsuitable p) (Verdict.Critical q n) e = cc
-one_verdict_said (Verdict.Unsuitable p) (Verdict.Accepted n) e = cc
-one_verdict_said (Verdict.Unsuitable p) (Verdict.Stopped n) e = cc
-one_verdict_said (Verdict.Critical p m) (Verdict.Unsuitable q) e = cc
-one_verdict_said (Verdict.Critical p m) (Verdict.Accepted n) e = cc
-one_verdict_said (Verdict.Critical p m) (Verdict.Stopped n) e = cc
-one_verdict_said (Verdict.Accepted m) (Verdict.Unsuitable q) e = cc
-one_verdict_said (Verdict.Accepted m) (Verdict.Critical q n) e = cc
-one_verdict_said (Verdict.Accepted m) (Verdict.Stopped n) e = cc
-one_verdict_said (Verdict.Stopped m) (Verdict.Unsuitable q) e = cc
-one_verdict_said (Verdict.Stopped m) (Verdict.Critical q n) e = cc
-one_verdict_said (Verdict.Stopped m) (Verdict.Accepted n) e = cc
+one_verdict_said (Verdict.Accepted m) (Verdict.Accepted n) l r e = cc
+one_verdict_said (Verdict.Stopped m) (Verdict.Stopped n) l r e = cc
+one_verdict_said (Verdict.Unsuitable p) (Verdict.Critical q n) l r e = cc
+one_verdict_said (Verdict.Unsuitable p) (Verdict.Accepted n) l r e = cc
+one_verdict_said (Verdict.Unsuitable p) (Verdict.Stopped n) l r e = cc
+one_verdict_said (Verdict.Critical p m) (Verdict.Unsuitable q) l r e = cc
+one_verdict_said (Verdict.Critical p m) (Verdict.Accepted n) l r e = cc
+one_verdict_said (Verdict.Critical p m) (Verdict.Stopped n) l r e = cc
+one_verdict_said (Verdict.Accepted m) (Verdict.Unsuitable q) l r e = cc
+one_verdict_said (Verdict.Accepted m) (Verdict.Critical q n) l r e = cc
+one_verdict_said (Verdict.Accepted m) (Verdict.Stopped n) l r e = cc
+one_verdict_said (Verdict.Stopped m) (Verdict.Unsuitable q) l r e = cc
+one_verdict_said (Verdict.Stopped m) (Verdict.Critical q n) l r e = cc
+one_verdict_said (Verdict.Stopped m) (Verdict.Accepted n) l r e = cc

@@ -34,6 +34,10 @@ said_as e p = rw e at p
 pub stored : (d : List ℕ) (at x : ℕ) → Put d at (x ∷ []) (at + 1) (set d at x)
 stored d at x = record { place = refl; holds = refl }
 
+-- A turn of the copy: what is left to store gives the same.
+pub copied_one : (d bs : List ℕ) (o i : ℕ) → i < length bs → sets (set d o (get_or bs i 0)) (o + 1) (drop (i + 1) bs) ≡ sets d o (drop i bs)
+copied_one d bs o i h = rw (drop-cons bs i 0 h, add-one o, add-one i)
+
 -- The buffer stays as long as it was.
 length_put : {d e bs : List ℕ} {at n : ℕ} → Put d at bs n e → length e ≡ length d
 length_put {d} {e} {bs} {at} p = ap length p.holds ∙ length-sets d at bs

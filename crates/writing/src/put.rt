@@ -13,8 +13,12 @@ pub fn put_bytes(out: &mut [u8], at: usize, bs: &[u8]) -> usize
     requires { Room out.old at bs.now }
     ensures { Put out.old at bs.now result out.new }
 {
-    let end = at + bs.len();
-    out[at..end].copy_from_slice(bs);
+    let mut end = at;
+    // One by one: for `copy_from_slice` the archive for C would need `memmove` from outside.
+    for b in bs {
+        out[end] = *b;
+        end += 1;
+    }
     end
 }
 

@@ -16,6 +16,6 @@ pub search_fitted-requires : goal.search_fitted-requires
 unfolding arities_of
 search_fitted-requires c = searchable _ _ c.requires.sound
 
-pub returns : goal.returns
+pub returns-clause-said : goal.returns-clause-said
 unfolding arities_of
-returns c = c.search_fitted.ensures ∙ closure_is _ _ c.requires.sound _ c.requires.merged _ _ c.weave-woven.ensures.0 c.weave-woven.ensures.1 _
+returns-clause-said c = c.search_fitted.ensures.said ∙ closure_is _ _ c.requires.sound _ c.requires.merged _ _ c.weave-woven.ensures.0 c.weave-woven.ensures.1 _

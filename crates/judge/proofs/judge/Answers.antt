@@ -6,10 +6,10 @@ use Rattle.tables.specs.Held.{held}
 use Rattle.verdicts.specs.Said.{said, said_sharing}
 use Rattle.judge.proofs.judge.Goals as goal
 
-pub returns-in-Some : goal.returns-in-Some
+pub returns-in-Some-clause-said : goal.returns-in-Some-clause-said
 unfolding verdict judge whole said said_sharing held
-returns-in-Some c = search rules
+returns-in-Some-clause-said c = search rules
 
-pub returns-in-None : goal.returns-in-None
+pub returns-in-None-clause-said : goal.returns-in-None-clause-said
 unfolding verdict judge said_sharing held
-returns-in-None c = search rules
+returns-in-None-clause-said c = search rules

@@ -9,4 +9,4 @@ returns-then-out-lt128 c = placed_short _ _ c.if-out-lt128.true
 
 pub returns : goal.returns
 returns c =
-    placed_written _ _ _ _ _ (ap closure_answer c.closure.ensures) c.if-out-lt128.false c.write_closure.ensures
+    placed_written _ _ _ _ _ (ap closure_answer c.closure.ensures.said) c.if-out-lt128.false c.write_closure.ensures

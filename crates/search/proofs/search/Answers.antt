@@ -7,11 +7,12 @@ use borrow.Author.Rules.{rules}
 use Rattle.paper.specs.Meaning.{total}
 use Rattle.lanes.specs.Prefixes.{rest}
 use Rattle.tables.specs.Held.{no_rule}
+use Rattle.verdicts.specs.Said.{EndedIn}
 use Rattle.lanes.specs.Automaton.{woven_automaton}
 use Rattle.search.proofs.Walk.{level_rule}
 use Rattle.search.proofs.Steps.{rule_count, rule_variables, rule_told, rule_given, rule_judgeable, rule_right}
 use Rattle.search.proofs.Turns.{right_fits, no_class, rule_end, one_class, judgeable, opened_for, choice_low, next_begun, three_classes, right_room, batch_for}
-use Rattle.search.proofs.Turns.{choice_bit, lane_bit, lane_next, lanes_done, batch_begun, batch_next, all_examined, passed_stop, lane_stop, lane_found, batch_stop}
+use Rattle.search.proofs.Turns.{choice_bit, lane_bit, lane_next, lanes_done, batch_begun, batch_next, all_examined, passed_stop, lane_stop, lane_found, lane_ended, batch_stop}
 use Rattle.search.proofs.Choosing.{class_low, gone_through, passed_over}
 use borrow.Author.Count.{below_more}
 use Rattle.search.proofs.search.Goals as goal
@@ -260,36 +261,40 @@ third-preserved c =
       rows = record { room = omega (arith, at.invariant.rows.room, c.batch.ensures.1); same = omega (arith, at.invariant.rows.same, c.batch.ensures.1) };
     }
 
-pub returns-after-rules : goal.returns-after-rules
-returns-after-rules c = let at = c.rules in all_examined at.invariant.ok _ (omega arith) at.invariant.place at.invariant.within at.invariant.clear
+pub returns-after-rules-clause-said : goal.returns-after-rules-clause-said
+returns-after-rules-clause-said c = let at = c.rules in all_examined at.invariant.ok _ (omega arith) at.invariant.place at.invariant.within at.invariant.clear
 
-pub returns-then-examined-most : goal.returns-then-examined-most
-returns-then-examined-most c = let at = c.lanes in lane_stop at.invariant.ruled at.invariant.lane c.lanes-test.true c.if-examined-most.true
+pub returns-then-examined-most-clause-said : goal.returns-then-examined-most-clause-said
+returns-then-examined-most-clause-said c = let at = c.lanes in lane_stop at.invariant.ruled at.invariant.lane c.lanes-test.true c.if-examined-most.true
 
-pub returns-then-critical : goal.returns-then-critical
-returns-then-critical c =
+pub returns-then-critical-clause-said : goal.returns-then-critical-clause-said
+returns-then-critical-clause-said c =
     let at = c.lanes in
     let going = c.lanes-test.true in
     let left = c.if-examined-most.false in
     let none = c.classes.invariant in
-    lane_found at.invariant.ruled at.invariant.lane going _ left c.critical.ensures c.if-critical.true none c.pair-found.ensures
+    lane_found at.invariant.ruled at.invariant.lane going _ left c.critical.ensures c.if-critical.true none c.pair-found.ensures.said
 
-pub returns-then-most-examined : goal.returns-then-most-examined
-returns-then-most-examined c =
+pub returns-then-critical-clause-ended : goal.returns-then-critical-clause-ended
+unfolding EndedIn
+returns-then-critical-clause-ended c = let at = c.lanes in lane_ended at.invariant.ruled at.invariant.lane c.lanes-test.true _ c.pair-found.ensures.is
+
+pub returns-then-most-examined-clause-said : goal.returns-then-most-examined-clause-said
+returns-then-most-examined-clause-said c =
     let at = c.third in
     let t = at.invariant.ruled in
     let going = c.third-test.true in
     batch_stop t at.invariant.level going (batch_for t c.batch.ensures.0) c.if-batch.false c.if-most-examined.true
 
-pub returns-then-most-examined-2 : goal.returns-then-most-examined-2
-returns-then-most-examined-2 c =
+pub returns-then-most-examined-2-clause-said : goal.returns-then-most-examined-2-clause-said
+returns-then-most-examined-2-clause-said c =
     let at = c.second in
     let t = at.invariant.ruled in
     let going = c.second-test.true in
     passed_stop t at.invariant.level t.m1_is going t.passed1_is at.invariant.opened (sym c.has-in-second.ensures ∙ c.if-has-2.false) c.if-most-examined-2.true
 
-pub returns-then-most-examined-3 : goal.returns-then-most-examined-3
-returns-then-most-examined-3 c =
+pub returns-then-most-examined-3-clause-said : goal.returns-then-most-examined-3-clause-said
+returns-then-most-examined-3-clause-said c =
     let at = c.first in
     let t = at.invariant.ruled in
     let going = c.first-test.true in
